@@ -1,0 +1,3 @@
+-- Lemmas on the rules.
+pub mod Slopes
+pub mod Lawful

@@ -1,0 +1,15 @@
+use mathlib.Core.Path.{ap, _∙_}
+use Rattle.service.specs.declared.Record.{Record}
+use Rattle.bounds.specs.Equations.{processor-worst, least-demand}
+use Rattle.rules.proofs.Lawful.{works, own-least, own-worst}
+use Rattle.rules.proofs.processor.ProcessorRule.respond.Needs as need
+
+pub worst-at-requires : need.worst-at-requires
+worst-at-requires c κs = works (c .args .records .now) (c .args .place) (c .in-Ok .ensures tt .0)
+
+pub returns-in-Ok : need.returns-in-Ok
+returns-in-Ok c =
+    let rs = c .args .records .now in
+    let p = c .args .place in
+    let told = c .in-Ok .ensures tt in
+    record { least = ap (λ (r : Record). r .least) (told .1) ∙ own-least least-demand rs p (told .0); worst = c .worst-at .ensures ∙ own-worst processor-worst rs p (told .0) }

@@ -1,0 +1,4 @@
+-- What the contracts of the rules cite.
+pub mod Workable
+pub mod Demands
+pub mod Layers
