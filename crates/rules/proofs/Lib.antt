@@ -1,3 +1,5 @@
 -- Lemmas on the rules.
 pub mod Slopes
 pub mod Lawful
+pub mod Longer
+pub mod Switched

@@ -2,3 +2,4 @@
 pub mod Workable
 pub mod Demands
 pub mod Layers
+pub mod Switches

@@ -6,3 +6,4 @@ pub mod either;
 pub mod pair;
 pub mod processor;
 pub mod ticks;
+pub mod switch;

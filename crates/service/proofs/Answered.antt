@@ -15,7 +15,7 @@ use Rattle.service.specs.Traces.{Trace}
 use Rattle.service.specs.Rows.{row, IsRow, Fit, Rows}
 use Rattle.service.specs.Laws.{Bounded, Patient, Rising, Ranged, Unfit, Beyond, Crowded}
 use Rattle.service.specs.Answers.{is-row, all-rows, admitted, refused-least, answered-least, answered-worst}
-use Rattle.service.proofs.Checks.{no-row-test, rows-test, no-rows-test, Admits, admits, admit}
+use Rattle.service.proofs.Checks.{no-row-test, rows-since, rows-test, no-rows-test, unfit-at, Admits, admits, admit}
 
 -- places that are not admitted
 unfit : (rs : List Record) (p q : ℕ) → q < length rs → (IsRow (row rs q) → ⊥) → all-rows rs ≡ false
@@ -93,3 +93,26 @@ module _ (least : List Record → ℕ → ℕ) (worst : List Record → ℕ → 
       let here : ltb p (length rs) ≡ true = lt-ltb p (length rs) h in
       let over : leb (length rs) 256 ≡ false = not-within (length rs) 256 more in
       (rw (all, here, over), rw (all, here, over))
+
+-- what every rule answers to bad input
+pub record Usual (least : List Record → ℕ → ℕ) (worst : List Record → ℕ → Option ℕ) : Type 0 where
+  pub unfit : Unfit least worst
+  pub beyond : Beyond least worst
+  pub crowded : Crowded least worst
+
+-- so two rules that answer alike where they have numbers of their own answer alike
+pub alike : (least least′ : List Record → ℕ → ℕ) (worst worst′ : List Record → ℕ → Option ℕ) → Usual least worst → Usual least′ worst′
+    → ((rs : List Record) (p : ℕ) → Admits rs p → (least rs p ≡ least′ rs p) × (worst rs p ≡ worst′ rs p))
+    → (rs : List Record) (p : ℕ) → (least rs p ≡ least′ rs p) × (worst rs p ≡ worst′ rs p)
+alike least least′ worst worst′ u v own rs p = go (cases-bool (all-rows rs)) (cases-lt p (length rs)) (cases-lt 256 (length rs))
+  where
+    both : {x y : ℕ} {o q : Option ℕ} → (least rs p ≡ x) × (worst rs p ≡ o) → (least′ rs p ≡ y) × (worst′ rs p ≡ q) → x ≡ y → o ≡ q
+        → (least rs p ≡ least′ rs p) × (worst rs p ≡ worst′ rs p)
+    both a b e f = (a .0 ∙ e ∙ sym (b .0), a .1 ∙ f ∙ sym (b .1))
+
+    go : (all-rows rs ≡ true) ⊎ (all-rows rs ≡ false) → (p < length rs) ⊎ (length rs ≤ p) → (256 < length rs) ⊎ (length rs ≤ 256)
+        → (least rs p ≡ least′ rs p) × (worst rs p ≡ worst′ rs p)
+    go (inr none) c d = let f = unfit-at rs none in both (u .unfit rs p (f .0) (f .1 .0) (f .1 .1)) (v .unfit rs p (f .0) (f .1 .0) (f .1 .1)) refl refl
+    go (inl all) (inr past) d = both (u .beyond rs p (rows-since rs all) past) (v .beyond rs p (rows-since rs all) past) refl refl
+    go (inl all) (inl here) (inl many) = both (u .crowded rs p (rows-since rs all) here many) (v .crowded rs p (rows-since rs all) here many) refl refl
+    go (inl all) (inl here) (inr few) = own rs p (record { all = all; place = here; few = few })

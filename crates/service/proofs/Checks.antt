@@ -82,6 +82,17 @@ no-rows-test rs q h e = go (cases-bool (all-rows rs))
     go (inl all) = absurd (both-ways (is-row (row rs q)) e (row-test (row rs q) (rows-since rs all q h)))
     go (inr none) = none
 
+-- and where the test of all fails, some record can be no row
+pub unfit-at : (rs : List Record) → all-rows rs ≡ false → (q : ℕ) × ((q < length rs) × (IsRow (row rs q) → ⊥))
+unfit-at [] e = absurd (both-ways true e refl)
+unfit-at (r ∷ rs) e = go (unfit-at rs) (cases-bool (is-row r)) (cases-bool (all-rows rs))
+  where
+    go : (all-rows rs ≡ false → (q : ℕ) × ((q < length rs) × (IsRow (row rs q) → ⊥))) → (is-row r ≡ true) ⊎ (is-row r ≡ false) → (all-rows rs ≡ true) ⊎ (all-rows rs ≡ false)
+        → (q : ℕ) × ((q < length (r ∷ rs)) × (IsRow (row (r ∷ rs) q) → ⊥))
+    go ih (inr here) rest = (0, (omega arith, λ i. both-ways (is-row r) here (row-test r i)))
+    go ih (inl here) (inr there) = let f : (q : ℕ) × ((q < length rs) × (IsRow (row rs q) → ⊥)) = ih there in (suc (f .0), (omega (arith, f .1 .0), f .1 .1))
+    go ih (inl here) (inl there) = absurd (both-ways (is-row r && all-rows rs) e (and-from (is-row r) (all-rows rs) here there))
+
 -- what an admitted place says
 pub record Admits (rs : List Record) (p : ℕ) : Type 0 where
   pub all : all-rows rs ≡ true

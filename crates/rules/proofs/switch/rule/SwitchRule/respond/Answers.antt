@@ -1,0 +1,22 @@
+use mathlib.Core.Path.{_≡_, sym, ap, subst, _∙_}
+use Prim.Native.Nat.{ℕ}
+use Rattle.service.proofs.Answered.{Usual}
+use Rattle.rules.specs.Switches.{switched-least, switched-worst}
+use Rattle.rules.proofs.Switched.{no-ticks}
+use Rattle.rules.proofs.switch.rule.SwitchRule.respond.Needs as need
+
+pub returns-then-self-eq0 : need.returns-then-self-eq0
+returns-then-self-eq0 g c =
+    let s = c .args .self .now in
+    let bit = c .args .bit-time in
+    let rs = c .args .records .now in
+    let p = c .args .place in
+    let least = g .R·Rule .least (s .below) bit in
+    let worst = g .R·Rule .worst (s .below) bit in
+    let usual : Usual least worst = record { unfit = g .R·Rule·met .unfit (s .below) bit; beyond = g .R·Rule·met .beyond (s .below) bit; crowded = g .R·Rule·met .crowded (s .below) bit } in
+    let same = no-ticks least worst usual rs p in
+    let none : s .ticks ≡ 0 = c .if-self-eq0 .taken in
+    record {
+      least = c .respond .ensures .least ∙ sym (same .0) ∙ ap (λ (n : ℕ). switched-least n least rs p) (sym none);
+      worst = c .respond .ensures .worst ∙ sym (same .1) ∙ ap (λ (n : ℕ). switched-worst n worst rs p) (sym none);
+    }
