@@ -8,7 +8,7 @@ use native.Mathlib.Numerals.{add-one}
 use native.Mathlib.Omega.{arith}
 use lib.Dec.{ltb, leb}
 use lib.ListN.{length, take}
-use Rattle.std.proofs.shelf.Tests.{both-ways, lt-ltb, le-ltb, ltb-true, le-leb, or-cases, or-right}
+use Rattle.std.proofs.shelf.Tests.{both-ways, lt-ltb, ltb-true, le-leb, or-cases, or-right}
 use Rattle.service.specs.declared.Record.{Record}
 use Rattle.service.specs.declared.row.Row.{Row}
 use Rattle.service.specs.Rows.{row, IsRow, Fit, record-of}
@@ -25,14 +25,14 @@ summed-more f priority (r ∷ rs) (suc i) h = omega (arith, summed-more f priori
 
 -- the step at a row that is above the priority, and at one that is not
 module _ (f : Record → ℕ) (priority : ℕ) (rs : List Record) (i : ℕ) (w : Row) (is : record-of w ≡ row rs i) (h : i < length rs) where
-  pub summed-in : w .priority < priority → summed f priority (take (i + 1) rs) ≡ summed f priority (take i rs) + f (record-of w)
+  pub summed-in : ltb (w .priority) priority ≡ true → summed f priority (take (i + 1) rs) ≡ summed f priority (take i rs) + f (record-of w)
   summed-in high =
-      let test : ltb (row rs i .priority) priority ≡ true = subst (λ (r : Record). ltb (r .priority) priority ≡ true) is (lt-ltb _ _ high) in
+      let test : ltb (row rs i .priority) priority ≡ true = subst (λ (r : Record). ltb (r .priority) priority ≡ true) is high in
       rw (add-one, is) (rw test at (summed-more f priority rs i h))
 
-  pub summed-out : priority ≤ w .priority → summed f priority (take (i + 1) rs) ≡ summed f priority (take i rs)
+  pub summed-out : ltb (w .priority) priority ≡ false → summed f priority (take (i + 1) rs) ≡ summed f priority (take i rs)
   summed-out low =
-      let test : ltb (row rs i .priority) priority ≡ false = subst (λ (r : Record). ltb (r .priority) priority ≡ false) is (le-ltb _ _ low) in
+      let test : ltb (row rs i .priority) priority ≡ false = subst (λ (r : Record). ltb (r .priority) priority ≡ false) is low in
       rw add-one (omega (arith, rw test at (summed-more f priority rs i h)))
 
 -- fewer rows have no larger sum

@@ -3,3 +3,4 @@ pub mod Numbers
 pub mod Equations
 pub mod Runs
 pub mod Stands
+pub mod Known

@@ -5,5 +5,5 @@ pub mod demand;
 pub mod either;
 pub mod pair;
 pub mod processor;
-pub mod ticks;
 pub mod switch;
+pub mod ticks;

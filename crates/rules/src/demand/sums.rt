@@ -1,6 +1,7 @@
 //! The sums of a demand: what is asked in a stretch, what is asked at least, and how steeply it rises.
 ghost use mathlib.Core.Path.{_≡_};
 ghost use Prim.Native.Nat.{ℕ, _^_, _<_, _≤_};
+ghost use lib.Dec.{ltb};
 ghost use lib.ListN.{length};
 ghost use Rattle.service.specs.Rows.{row, record-of};
 ghost use Rattle.bounds.specs.Numbers.{Under};
@@ -49,6 +50,13 @@ fn steepness(row: &Row) -> u64
 }
 
 impl Demand {
+    /// Whether a row's jobs are waited for: it goes before the demand's priority.
+    fn waits_for(&self, row: &Row) -> bool
+        ensures { λ r. ⌜ r ≡ ltb (now (row .entry) .priority) (now (self .entry) .priority) ⌝ }
+    {
+        row.priority < self.priority
+    }
+
     /// How steeply the higher rows' demand rises, in parts of 2 ^ 32 a tick: no more than it does, and 2 ^ 32 at most.
     fn slope(&self, records: &[Record]) -> u64
         requires { ⌜ Workable (now records) ⌝ }
@@ -58,7 +66,7 @@ impl Demand {
         let mut sum = 0u64;
         for place in 0..records.len() {
             let row = row_at(records, place);
-            if row.priority < self.priority {
+            if self.waits_for(&row) {
                 sum += steepness(&row);
                 if sum >= ONE {
                     return ONE;
@@ -76,7 +84,7 @@ pub impl Step for Demand as DemandStep {
         let mut sum = u64::from(self.base);
         for place in 0..records.len() {
             let row = row_at(records, place);
-            if row.priority < self.priority {
+            if self.waits_for(&row) {
                 sum += asked(&row, n, self.more);
             }
         }
@@ -91,7 +99,7 @@ pub impl Step for Demand as DemandStep {
         let mut sum = u64::from(self.base);
         for place in 0..records.len() {
             let row = row_at(records, place);
-            if row.priority < self.priority {
+            if self.waits_for(&row) {
                 sum += u64::from(row.greatest);
             }
         }

@@ -57,7 +57,8 @@ pub impl<R: Rule> Rule for Switch<R> as SwitchRule {
                 }
                 let mut scratch = [BLANK; 256];
                 lengthen(records, self.ticks, &mut scratch);
-                self.below.respond(bit_time, &scratch[0..records.len()], place)
+                self.below
+                    .respond(bit_time, &scratch[0..records.len()], place)
             }
         }
     }

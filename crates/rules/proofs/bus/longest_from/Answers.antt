@@ -17,10 +17,10 @@ loop-told-again c =
     let more = longest-more (c .args .priority) rs i (c .loop-told-test .taken) in
     elim (c .if-priority-told .came) [
       | then-priority-told w ↦
-          let test : leb (c .args .priority) (row rs i .priority) ≡ true = le-leb _ _ (w .if-priority-told .taken) in
+          let test : leb (c .args .priority) (row rs i .priority) ≡ true = le-leb _ _ (omega (arith, w .if-priority-told .taken)) in
           (omega (arith, rw test at more, w .most-is, w .max-most .ensures, c .loop-told .inv .0), omega (arith, w .most-is, w .max-most .ok))
       | else-priority-told w ↦
-          let test : leb (c .args .priority) (row rs i .priority) ≡ false = lt-leb _ _ (w .if-priority-told .left) in
+          let test : leb (c .args .priority) (row rs i .priority) ≡ false = lt-leb _ _ (omega (arith, w .if-priority-told .left)) in
           (omega (arith, rw test at more, w .most-is, c .loop-told .inv .0), omega (arith, w .most-is, c .loop-told .inv .1))
     ]
 

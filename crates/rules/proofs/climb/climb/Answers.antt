@@ -1,4 +1,4 @@
-use mathlib.Core.Path.{_≡_, sym, subst, _∙_}
+use mathlib.Core.Path.{_≡_, sym, subst}
 use Prim.Native.Nat.{ℕ, _≤_, _<_}
 use native.Mathlib.Omega.{arith}
 use Rattle.bounds.specs.Numbers.{Rises, Under}
@@ -17,7 +17,7 @@ higher g c =
     (omega arith, subst (Under to) (sym is) (next-under to rises (c .rise .n) (c .rise .inv .0)))
 
 pub returns-then-next-n : need.returns-then-next-n
-returns-then-next-n g c = (record { stays = sym (c .step-next .ensures) ∙ c .if-next-n .taken; under = c .rise .inv .0 }, omega arith)
+returns-then-next-n g c = (record { stays = omega (arith, c .step-next .ensures); under = c .rise .inv .0 }, omega arith)
 
 pub rise-less-then-patience-eq1 : need.rise-less-then-patience-eq1
 rise-less-then-patience-eq1 g c = let h = higher g (need.at·rise-less-then-patience-eq1 g c .Else-next-n) in omega (arith, c .max-n .ensures)

@@ -12,5 +12,7 @@ pub returns : need.returns
 returns c =
     let rs = c .args .records .now in
     let worst : Record → Option ℕ = λ r. fitting r (solution (λ n. r .greatest + above (r .priority) 0 n rs) (r .period)) in
-    let here : c .response .result ≡ worst (record-of (c .row-at-row .result)) = c .response .ensures ∙ ap (fitting (record-of (c .row-at-row .result))) (plus-none _) in
+    let w = record-of (c .row-at-row .result) in
+    let alone = plus-none (solution (λ n. w .greatest + above (w .priority) 0 n rs) (w .period)) in
+    let here : c .response .result ≡ worst w = cc in
     here ∙ ap worst (c .row-at-row .ensures)

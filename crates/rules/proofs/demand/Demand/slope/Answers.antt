@@ -11,23 +11,23 @@ use Rattle.bounds.proofs.Sums.{summed-in, summed-out, summed-take}
 use Rattle.rules.specs.Demands.{steep}
 use Rattle.rules.proofs.Slopes.{slopes-rise}
 use Rattle.rules.proofs.demand.Demand.slope.Needs as need
-use Rattle.rules.proofs.demand.Demand.slope.Needs.{then-row-self·else-sum-ge-ONE, else-row-self}
+use Rattle.rules.proofs.demand.Demand.slope.Needs.{then-waits-for·else-sum-ge-ONE, else-waits-for}
 
 pub loop-place-again : need.loop-place-again
 loop-place-again c =
     let d = c .args .self .now in
-    elim (c .if-row-self .came) [
-      | then-row-self·else-sum-ge-ONE w ↦
-          let in-it = summed-in steep (d .priority) (c .args .records .now) (c .loop-place .place) (c .row-at-row .result) (c .row-at-row .ensures) (c .loop-place-test .taken) (w .if-row-self .taken) in
+    elim (c .if-waits-for .came) [
+      | then-waits-for·else-sum-ge-ONE w ↦
+          let in-it = summed-in steep (d .priority) (c .args .records .now) (c .loop-place .place) (c .row-at-row .result) (c .row-at-row .ensures) (c .loop-place-test .taken) (sym (w .if-waits-for .ensures tt)) in
           (omega (arith, in-it, w .sum-is, w .steepness-sum .ensures .value, c .loop-place .inv .0), omega (arith, w .sum-is, w .if-sum-ge-ONE .left))
-      | else-row-self w ↦
-          (omega (arith, summed-out steep (d .priority) (c .args .records .now) (c .loop-place .place) (c .row-at-row .result) (c .row-at-row .ensures) (c .loop-place-test .taken) (w .if-row-self .left), w .sum-is, c .loop-place .inv .0), omega (arith, w .sum-is, c .loop-place .inv .1))
+      | else-waits-for w ↦
+          (omega (arith, summed-out steep (d .priority) (c .args .records .now) (c .loop-place .place) (c .row-at-row .result) (c .row-at-row .ensures) (c .loop-place-test .taken) (sym (w .if-waits-for .ensures tt)), w .sum-is, c .loop-place .inv .0), omega (arith, w .sum-is, c .loop-place .inv .1))
     ]
 
 pub returns-then-sum-ge-ONE : need.returns-then-sum-ge-ONE
 returns-then-sum-ge-ONE c =
     let d = c .args .self .now in
-    let in-it = summed-in steep (d .priority) (c .args .records .now) (c .loop-place .place) (c .row-at-row .result) (c .row-at-row .ensures) (c .loop-place-test .taken) (c .if-row-self .taken) in
+    let in-it = summed-in steep (d .priority) (c .args .records .now) (c .loop-place .place) (c .row-at-row .result) (c .row-at-row .ensures) (c .loop-place-test .taken) (sym (c .if-waits-for .ensures tt)) in
     let each : Fit (c .args .records .now) = rows-since (c .args .records .now) (c .pre .all) in
     let full : 4294967296 ≤ summed steep (d .priority) (c .args .records .now) =
     omega (arith, in-it, summed-take steep (d .priority) (c .args .records .now) (c .loop-place .place + 1), c .if-sum-ge-ONE .taken, c .steepness-sum .ensures .value, c .loop-place .inv .0) in

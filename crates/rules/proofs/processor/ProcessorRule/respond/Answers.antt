@@ -1,4 +1,4 @@
-use mathlib.Core.Path.{ap, _∙_}
+use mathlib.Core.Path.{ap}
 use Rattle.service.specs.declared.Record.{Record}
 use Rattle.bounds.specs.Equations.{processor-worst, least-demand}
 use Rattle.rules.proofs.Lawful.{works, own-least, own-worst}
@@ -12,4 +12,7 @@ returns-in-Ok c =
     let rs = c .args .records .now in
     let p = c .args .place in
     let told = c .in-Ok .ensures tt in
-    record { least = ap (λ (r : Record). r .least) (told .1) ∙ own-least least-demand rs p (told .0); worst = c .worst-at .ensures ∙ own-worst processor-worst rs p (told .0) }
+    let one = ap (λ (r : Record). r .least) (told .1) in
+    let two = own-least least-demand rs p (told .0) in
+    let three = own-worst processor-worst rs p (told .0) in
+    record { least = cc; worst = cc }

@@ -9,8 +9,8 @@ use Rattle.rules.specs.Switches.{longer, all-longer}
 use Rattle.rules.proofs.Longer.{room-at}
 use Rattle.rules.proofs.switch.rows.lengthen.Needs as need
 
-pub add-told : need.add-told
-add-told c = omega (arith, room-at (c .args .ticks) (c .args .records .now) (c .pre .1) (c .loop-at .at) (c .loop-at-test .taken), c .from .ensures)
+pub lengthened-requires : need.lengthened-requires
+lengthened-requires c κs = room-at (c .args .ticks) (c .args .records .now) (c .pre .1) (c .loop-at .at) (c .loop-at-test .taken)
 
 pub loop-at-again : need.loop-at-again
 loop-at-again c =
@@ -19,7 +19,7 @@ loop-at-again c =
     let inside : i < length (c .loop-at .scratch) = omega (arith, c .pre .0 .few) in (
       length-set _ _ _ ∙ c .loop-at .inv .0,
       take-more-set (c .loop-at .scratch) i _ inside
-          ∙ ap (λ n. take i (c .loop-at .scratch) ++ longer n r ∷ []) (c .from .ensures)
+          ∙ ap (λ x. take i (c .loop-at .scratch) ++ x ∷ []) (c .lengthened .ensures)
           ∙ ap (λ l. l ++ longer (c .args .ticks) r ∷ []) (c .loop-at .inv .1)
           ∙ sym (map-more (longer (c .args .ticks)) (c .args .records .now) i no-record (c .loop-at-test .taken)),
     )

@@ -9,17 +9,17 @@ use Rattle.bounds.proofs.Sums.{summed-in, summed-out}
 use Rattle.rules.specs.Demands.{once, demanded}
 use Rattle.rules.proofs.Slopes.{once-under}
 use Rattle.rules.proofs.demand.sums.DemandStep.start.Needs as need
-use Rattle.rules.proofs.demand.sums.DemandStep.start.Needs.{then-row-self, else-row-self}
+use Rattle.rules.proofs.demand.sums.DemandStep.start.Needs.{then-waits-for, else-waits-for}
 
 pub loop-place-again : need.loop-place-again
 loop-place-again c =
     let d = c .args .self .now in
     let f : Record → ℕ = λ r. r .greatest in
-    elim (c .if-row-self .came) [
-      | then-row-self w ↦
-          (omega (arith, summed-in f (d .priority) (c .args .records .now) (c .loop-place .place) (c .row-at-row .result) (c .row-at-row .ensures) (c .loop-place-test .taken) (w .if-row-self .taken), w .sum-is, w .from-sum-then-row-self .ensures, c .loop-place .inv .0), omega (arith, w .sum-is, w .from-sum-then-row-self .ensures, c .loop-place .inv .1))
-      | else-row-self w ↦
-          (omega (arith, summed-out f (d .priority) (c .args .records .now) (c .loop-place .place) (c .row-at-row .result) (c .row-at-row .ensures) (c .loop-place-test .taken) (w .if-row-self .left), w .sum-is, c .loop-place .inv .0), omega (arith, w .sum-is, c .loop-place .inv .1))
+    elim (c .if-waits-for .came) [
+      | then-waits-for w ↦
+          (omega (arith, summed-in f (d .priority) (c .args .records .now) (c .loop-place .place) (c .row-at-row .result) (c .row-at-row .ensures) (c .loop-place-test .taken) (sym (w .if-waits-for .ensures tt)), w .sum-is, w .from-sum-then-waits-for .ensures, c .loop-place .inv .0), omega (arith, w .sum-is, w .from-sum-then-waits-for .ensures, c .loop-place .inv .1))
+      | else-waits-for w ↦
+          (omega (arith, summed-out f (d .priority) (c .args .records .now) (c .loop-place .place) (c .row-at-row .result) (c .row-at-row .ensures) (c .loop-place-test .taken) (sym (w .if-waits-for .ensures tt)), w .sum-is, c .loop-place .inv .0), omega (arith, w .sum-is, c .loop-place .inv .1))
     ]
 
 pub returns : need.returns

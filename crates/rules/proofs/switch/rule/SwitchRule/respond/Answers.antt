@@ -1,4 +1,4 @@
-use mathlib.Core.Path.{_≡_, sym, ap, subst, _∙_}
+use mathlib.Core.Path.{_≡_, ap}
 use Prim.Native.Nat.{ℕ}
 use Rattle.service.proofs.Answered.{Usual}
 use Rattle.rules.specs.Switches.{switched-least, switched-worst}
@@ -16,7 +16,6 @@ returns-then-self-eq0 g c =
     let usual : Usual least worst = record { unfit = g .R·Rule·met .unfit (s .below) bit; beyond = g .R·Rule·met .beyond (s .below) bit; crowded = g .R·Rule·met .crowded (s .below) bit } in
     let same = no-ticks least worst usual rs p in
     let none : s .ticks ≡ 0 = c .if-self-eq0 .taken in
-    record {
-      least = c .respond .ensures .least ∙ sym (same .0) ∙ ap (λ (n : ℕ). switched-least n least rs p) (sym none);
-      worst = c .respond .ensures .worst ∙ sym (same .1) ∙ ap (λ (n : ℕ). switched-worst n worst rs p) (sym none);
-    }
+    let by-least = ap (λ (n : ℕ). switched-least n least rs p) none in
+    let by-worst = ap (λ (n : ℕ). switched-worst n worst rs p) none in
+    record { least = cc; worst = cc }
