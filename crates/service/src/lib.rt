@@ -11,6 +11,7 @@ pub mod row;
 
 /// What a rule is told of one item on its resource, before it is checked. Times are in ticks.
 #[derive(Clone, Copy)]
+#[repr(C)]
 pub struct Record {
     /// The smaller goes first.
     pub priority: u32,

@@ -1,13 +1,13 @@
 //! The sums of a demand: what is asked in a stretch, what is asked at least, and how steeply it rises.
 ghost use mathlib.Core.Path.{_≡_};
-ghost use Prim.Native.Nat.{ℕ, _^_, _<_, _≤_};
+ghost use Prim.Native.Nat.{ℕ, _^_, _<_, _≤_, min};
 ghost use lib.Dec.{ltb};
 ghost use lib.ListN.{length};
 ghost use Rattle.service.specs.Rows.{row, record-of};
 ghost use Rattle.bounds.specs.Numbers.{Under};
 ghost use Rattle.bounds.specs.Equations.{asks};
 ghost use Rattle.rules.specs.Workable.{Workable};
-ghost use Rattle.rules.specs.Demands.{demanded, once, steep, Rises-by};
+ghost use Rattle.rules.specs.Demands.{demanded, once, steep, slopes, Full, Rises-by};
 use crate::climb::Step;
 use crate::demand::Demand;
 use crate::ticks::Ticks;
@@ -57,10 +57,10 @@ impl Demand {
         row.priority < self.priority
     }
 
-    /// How steeply the higher rows' demand rises, in parts of 2 ^ 32 a tick: no more than it does, and 2 ^ 32 at most.
+    /// How steeply the higher rows' demand rises, in parts of 2 ^ 32 a tick, each rounded down, and 2 ^ 32 at most.
     fn slope(&self, records: &[Record]) -> u64
         requires { ⌜ Workable (now records) ⌝ }
-        ensures most { λ r. ⌜ r ≤ 2 ^ 32 ⌝ }
+        ensures value { λ r. ⌜ r ≡ min (slopes (now (self .entry)) (now (records .entry))) (2 ^ 32) ⌝ }
         ensures slow { λ r. ⌜ Rises-by (now (self .entry)) (now (records .entry)) r ⌝ }
     {
         let mut sum = 0u64;
@@ -106,7 +106,11 @@ pub impl Step for Demand as DemandStep {
         sum
     }
 
-    fn leap(&self, records: &[Record]) -> u64 {
+    fn leap(&self, records: &[Record]) -> u64
+        requires { ⌜ Workable (now records) ⌝ }
+        ensures { λ r. ⌜ Under (demanded (now (self .entry)) (now (records .entry))) r ⌝ }
+        ensures beyond { λ r. ⌜ (Full (now (self .entry)) (now (records .entry)) → 10000000 < r) ⌝ }
+    {
         let slope = self.slope(records);
         if slope == ONE {
             return u64::MAX;

@@ -31,11 +31,11 @@ returns-then-sum-ge-ONE c =
     let each : Fit (c .args .records .now) = rows-since (c .args .records .now) (c .pre .all) in
     let full : 4294967296 ≤ summed steep (d .priority) (c .args .records .now) =
     omega (arith, in-it, summed-take steep (d .priority) (c .args .records .now) (c .loop-place .place + 1), c .if-sum-ge-ONE .taken, c .steepness-sum .ensures .value, c .loop-place .inv .0) in
-    record { most = omega arith; slow = λ n. omega (arith, slopes-rise (d .more) n (d .priority) (c .args .records .now) each, mul-le-mul {n₁ = n} {n₂ = n} (omega arith) full) }
+    record { value = omega (arith, full); slow = λ n. omega (arith, slopes-rise (d .more) n (d .priority) (c .args .records .now) each, mul-le-mul {n₁ = n} {n₂ = n} (omega arith) full) }
 
 pub returns : need.returns
 returns c =
     let d = c .args .self .now in
     let value : c .loop-place .sum ≡ summed steep (d .priority) (c .args .records .now) =
     c .loop-place .inv .0 ∙ ap (summed steep (d .priority)) (take-all _ _ (c .loop-place-test .left)) in
-    record { most = omega (arith, c .loop-place .inv .1); slow = λ n. rw value (slopes-rise (d .more) n (d .priority) (c .args .records .now) (rows-since (c .args .records .now) (c .pre .all))) }
+    record { value = omega (arith, value, c .loop-place .inv .1); slow = λ n. rw value (slopes-rise (d .more) n (d .priority) (c .args .records .now) (rows-since (c .args .records .now) (c .pre .all))) }

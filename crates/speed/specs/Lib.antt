@@ -1,0 +1,2 @@
+-- What the calls of the speed comparison answer.
+pub mod Answers
