@@ -31,11 +31,11 @@ frames = told 0 2500 0 824 1000 ∷ (told 1 3500 0 824 1000 ∷ (told 2 3500 0 8
 abbrev pub alone : (period greatest : ℕ) → List Record
 alone period greatest = told 0 period 0 47 greatest ∷ []
 
--- a row every 5 ticks of demand 2 and some jitter, over one of demand 3
+-- two ticks of work every 5 ticks with some jitter, over a row of three ticks
 abbrev pub under-five : ℕ → List Record
 under-five jitter = told 0 5 jitter 2 2 ∷ (told 1 100 0 3 3 ∷ [])
 
--- rows of demand 1 every 30 and every 100 ticks
+-- one tick of work every 30 and every 100 ticks
 abbrev pub short-frames : List Record
 short-frames = told 0 30 0 1 1 ∷ (told 1 100 0 1 1 ∷ [])
 

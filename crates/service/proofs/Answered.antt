@@ -9,13 +9,13 @@ use lib.Dec.{leb, ltb}
 use lib.ListN.{length}
 use Rattle.std.specs.declared.option.Option.{Option}
 use Rattle.std.specs.declared.option.Option.the-variants.{Some, None}
-use Rattle.std.proofs.shelf.Tests.{cases-bool, cases-lt, cond-true, cond-false, lt-ltb, ltb-true, leb-true}
+use Rattle.std.proofs.shelf.Tests.{cases-bool, cases-lt, cond-true, cond-false, lt-ltb, ltb-true, leb-true, both-ways}
 use Rattle.service.specs.declared.Record.{Record}
 use Rattle.service.specs.Traces.{Trace}
 use Rattle.service.specs.Rows.{row, IsRow, Fit, Rows}
-use Rattle.service.specs.Laws.{Bounded, Patient, Rising, Ranged, Unfit, Beyond, Crowded}
+use Rattle.service.specs.Laws.{Bounded, Patient, Rising, Ranged, Unfit, Beyond, Crowded, Lawful}
 use Rattle.service.specs.Answers.{is-row, all-rows, admitted, refused-least, answered-least, answered-worst}
-use Rattle.service.proofs.Checks.{no-row-test, rows-since, rows-test, no-rows-test, unfit-at, Admits, admits, admit}
+use Rattle.service.proofs.Checks.{row-since, row-test, no-row-test, rows-since, rows-test, no-rows-test, unfit-at, Admits, admits, admit}
 
 -- places that are not admitted
 unfit : (rs : List Record) (p q : ℕ) → q < length rs → (IsRow (row rs q) → ⊥) → all-rows rs ≡ false
@@ -55,15 +55,15 @@ least-own of rs p each h many = go (cases-lt 256 (length rs))
     go (inr few) = rw (admit rs p (record { all = all; place = h; few = few }))
 
 module _ (least : List Record → ℕ → ℕ) (worst : List Record → ℕ → Option ℕ) (many : (rs : List Record) (p : ℕ) → Fit rs → p < length rs → 256 < length rs → least rs p ≡ row rs p .least) where
-  pub answered-bounded : (may : List Record → Trace → Type 0) → Bounded may worst → Bounded may (answered-worst worst)
+  answered-bounded : (may : List Record → Trace → Type 0) → Bounded may worst → Bounded may (answered-worst worst)
   answered-bounded may law rs x ahead t p a w rows orderly ok on-time h here e =
       law rs x ahead t p a w rows orderly ok on-time h here (worst-own worst rs p w e .1)
 
-  pub answered-patient : (may : List Record → Trace → Type 0) → Patient may least → Patient may (answered-least least)
+  answered-patient : (may : List Record → Trace → Type 0) → Patient may least → Patient may (answered-least least)
   answered-patient may law rs x p a r f rows orderly ok h released finishes =
       rw (least-own least rs p (rows .each) h (many rs p (rows .each) h)) (law rs x p a r f rows orderly ok h released finishes)
 
-  pub answered-rising : Rising least worst → Rising (answered-least least) (answered-worst worst)
+  answered-rising : Rising least worst → Rising (answered-least least) (answered-worst worst)
   answered-rising law rs ss good loose-good looser p h =
       let h′ : p < length ss = omega (arith, looser .same-length) in
       let l = law rs ss good loose-good looser p h in (
@@ -75,36 +75,43 @@ module _ (least : List Record → ℕ → ℕ) (worst : List Record → ℕ → 
             (v .0, (rw (admit rs p open-to) (v .1 .0), v .1 .1)),
       )
 
-  pub answered-ranged : Ranged least worst → Ranged (answered-least least) (answered-worst worst)
+  answered-ranged : Ranged least worst → Ranged (answered-least least) (answered-worst worst)
   answered-ranged law rs good p h =
       let l = law rs good p h in
       let same : answered-least least rs p ≡ least rs p = least-own least rs p (good .each) h (many rs p (good .each) h) in
       (rw same (l .0), λ w e. rw same (l .1 w (worst-own worst rs p w e .1)))
 
-  pub answered-unfit : Unfit (answered-least least) (answered-worst worst)
+  answered-unfit : Unfit (answered-least least) (answered-worst worst)
   answered-unfit rs p q h none = let fails : all-rows rs ≡ false = unfit rs p q h none in (rw fails, rw fails)
 
-  pub answered-beyond : Beyond (answered-least least) (answered-worst worst)
+  answered-beyond : Beyond (answered-least least) (answered-worst worst)
   answered-beyond rs p each h = let all : all-rows rs ≡ true = rows-test rs each in let out : ltb p (length rs) ≡ false = not-below p (length rs) h in (rw (all, out), rw (all, out))
 
-  pub answered-crowded : Crowded (answered-least least) (answered-worst worst)
+  answered-crowded : Crowded (answered-least least) (answered-worst worst)
   answered-crowded rs p each h more =
       let all : all-rows rs ≡ true = rows-test rs each in
       let here : ltb p (length rs) ≡ true = lt-ltb p (length rs) h in
       let over : leb (length rs) 256 ≡ false = not-within (length rs) 256 more in
       (rw (all, here, over), rw (all, here, over))
 
--- what every rule answers to bad input
-pub record Usual (least : List Record → ℕ → ℕ) (worst : List Record → ℕ → Option ℕ) : Type 0 where
-  pub unfit : Unfit least worst
-  pub beyond : Beyond least worst
-  pub crowded : Crowded least worst
+  -- so numbers that obey the laws on rows make a lawful rule
+  pub answered-lawful : (may : List Record → Trace → Type 0) → Bounded may worst → Patient may least → Rising least worst → Ranged least worst
+      → Lawful may (answered-least least) (answered-worst worst)
+  answered-lawful may bounded patient rising ranged = record {
+    bounded = answered-bounded may bounded;
+    patient = answered-patient may patient;
+    rising = answered-rising rising;
+    ranged = answered-ranged ranged;
+    unfit = answered-unfit;
+    beyond = answered-beyond;
+    crowded = answered-crowded;
+  }
 
--- so two rules that answer alike where they have numbers of their own answer alike
-pub alike : (least least′ : List Record → ℕ → ℕ) (worst worst′ : List Record → ℕ → Option ℕ) → Usual least worst → Usual least′ worst′
+-- two rules that answer alike where they have numbers of their own answer alike
+pub alike : (may may′ : List Record → Trace → Type 0) (least least′ : List Record → ℕ → ℕ) (worst worst′ : List Record → ℕ → Option ℕ) → Lawful may least worst → Lawful may′ least′ worst′
     → ((rs : List Record) (p : ℕ) → Admits rs p → (least rs p ≡ least′ rs p) × (worst rs p ≡ worst′ rs p))
     → (rs : List Record) (p : ℕ) → (least rs p ≡ least′ rs p) × (worst rs p ≡ worst′ rs p)
-alike least least′ worst worst′ u v own rs p = go (cases-bool (all-rows rs)) (cases-lt p (length rs)) (cases-lt 256 (length rs))
+alike may may′ least least′ worst worst′ u v own rs p = go (cases-bool (all-rows rs)) (cases-lt p (length rs)) (cases-lt 256 (length rs))
   where
     both : {x y : ℕ} {o q : Option ℕ} → (least rs p ≡ x) × (worst rs p ≡ o) → (least′ rs p ≡ y) × (worst′ rs p ≡ q) → x ≡ y → o ≡ q
         → (least rs p ≡ least′ rs p) × (worst rs p ≡ worst′ rs p)
@@ -116,3 +123,14 @@ alike least least′ worst worst′ u v own rs p = go (cases-bool (all-rows rs))
     go (inl all) (inr past) d = both (u .beyond rs p (rows-since rs all) past) (v .beyond rs p (rows-since rs all) past) refl refl
     go (inl all) (inl here) (inl many) = both (u .crowded rs p (rows-since rs all) here many) (v .crowded rs p (rows-since rs all) here many) refl refl
     go (inl all) (inl here) (inr few) = own rs p (record { all = all; place = here; few = few })
+
+-- a rule that gives a worst was told rows only
+pub fit-since : (least : List Record → ℕ → ℕ) (worst : List Record → ℕ → Option ℕ) → Unfit least worst → (rs : List Record) (p w : ℕ) → worst rs p ≡ Some w → Fit rs
+fit-since least worst law rs p w e q h = go (cases-bool (is-row (row rs q)))
+  where
+    go : (is-row (row rs q) ≡ true) ⊎ (is-row (row rs q) ≡ false) → IsRow (row rs q)
+    go (inl test) = row-since (row rs q) test
+    go (inr test) =
+        let none : worst rs p ≡ None = law rs p q h (λ i. both-ways (is-row (row rs q)) test (row-test (row rs q) i)) .1 in
+        let z : _≡_ {A = ℕ} 0 1 = cc in
+        absurd (omega arith)

@@ -59,3 +59,13 @@ Beyond least worst = (rs : List Record) (p : ℕ) → Fit rs → length rs ≤ p
 -- told more than 256 rows, none and the least demand
 abbrev pub Crowded : (List Record → ℕ → ℕ) → (List Record → ℕ → Option ℕ) → Type 0
 Crowded least worst = (rs : List Record) (p : ℕ) → Fit rs → p < length rs → 256 < length rs → (least rs p ≡ row rs p .least) × (worst rs p ≡ None)
+
+-- all of it, of the runs that a rule allows and its two numbers at one bit time
+pub record Lawful (allows : Allows) (least : List Record → ℕ → ℕ) (worst : List Record → ℕ → Option ℕ) : Type 0 where
+  pub bounded : Bounded allows worst
+  pub patient : Patient allows least
+  pub rising : Rising least worst
+  pub ranged : Ranged least worst
+  pub unfit : Unfit least worst
+  pub beyond : Beyond least worst
+  pub crowded : Crowded least worst

@@ -1,18 +1,9 @@
-use mathlib.Core.Path.{ap}
-use Rattle.service.specs.declared.Record.{Record}
-use Rattle.bounds.specs.Equations.{bus-worst, least-demand}
-use Rattle.rules.proofs.Lawful.{works, own-least, own-worst}
+use Rattle.bounds.specs.Equations.{bus-worst}
+use Rattle.rules.proofs.Lawful.{works, own-answers}
 use Rattle.rules.proofs.bus.BusRule.respond.Needs as need
 
 pub worst-at-requires : need.worst-at-requires
 worst-at-requires c κs = works (c .args .records .now) (c .args .place) (c .in-Ok .ensures tt .0)
 
 pub returns-in-Ok : need.returns-in-Ok
-returns-in-Ok c =
-    let rs = c .args .records .now in
-    let p = c .args .place in
-    let told = c .in-Ok .ensures tt in
-    let one = ap (λ (r : Record). r .least) (told .1) in
-    let two = own-least least-demand rs p (told .0) in
-    let three = own-worst (bus-worst (c .args .bit-time)) rs p (told .0) in
-    record { least = cc; worst = cc }
+returns-in-Ok c = let own = own-answers (bus-worst (c .args .bit-time)) (c .args .records .now) (c .args .place) (c .in-Ok .row) (c .in-Ok .ensures tt) in record { least = cc; worst = cc }

@@ -1,54 +1,24 @@
 -- A switch keeps the laws, since the rule below it does.
-use Rattle.service.proofs.Answered.{answered-bounded, answered-patient, answered-rising, answered-ranged, answered-unfit, answered-beyond, answered-crowded}
-use Rattle.rules.specs.Switches.{switched-allows, longer-least, longer-worst}
-use Rattle.rules.proofs.Switched.{longer-bounded, longer-patient, longer-rising, longer-ranged, longer-many}
+use Rattle.rules.proofs.Switched.{switched-lawful}
 use Rattle.rules.proofs.switch.rule.SwitchRule.the-impl.Needs as need
 
 pub bounded-law : need.bounded-law
-bounded-law g s bit =
-    let may = g .R·Rule .allows (s .below) bit in
-    let least = g .R·Rule .least (s .below) bit in
-    let worst = g .R·Rule .worst (s .below) bit in
-    answered-bounded (longer-least (s .ticks) least) (longer-worst (s .ticks) worst) (longer-many (s .ticks) least worst (g .R·Rule·met .crowded (s .below) bit)) (switched-allows (s .ticks) may) (longer-bounded (s .ticks) least worst may (g .R·Rule·met .bounded (s .below) bit))
+bounded-law g s bit = switched-lawful (s .ticks) _ _ _ (record { bounded = g .R·Rule·met .bounded (s .below) bit; patient = g .R·Rule·met .patient (s .below) bit; rising = g .R·Rule·met .rising (s .below) bit; ranged = g .R·Rule·met .ranged (s .below) bit; unfit = g .R·Rule·met .unfit (s .below) bit; beyond = g .R·Rule·met .beyond (s .below) bit; crowded = g .R·Rule·met .crowded (s .below) bit }) .bounded
 
 pub patient-law : need.patient-law
-patient-law g s bit =
-    let may = g .R·Rule .allows (s .below) bit in
-    let least = g .R·Rule .least (s .below) bit in
-    let worst = g .R·Rule .worst (s .below) bit in
-    answered-patient (longer-least (s .ticks) least) (longer-worst (s .ticks) worst) (longer-many (s .ticks) least worst (g .R·Rule·met .crowded (s .below) bit)) (switched-allows (s .ticks) may) (longer-patient (s .ticks) least worst may (g .R·Rule·met .patient (s .below) bit))
+patient-law g s bit = switched-lawful (s .ticks) _ _ _ (record { bounded = g .R·Rule·met .bounded (s .below) bit; patient = g .R·Rule·met .patient (s .below) bit; rising = g .R·Rule·met .rising (s .below) bit; ranged = g .R·Rule·met .ranged (s .below) bit; unfit = g .R·Rule·met .unfit (s .below) bit; beyond = g .R·Rule·met .beyond (s .below) bit; crowded = g .R·Rule·met .crowded (s .below) bit }) .patient
 
 pub rising-law : need.rising-law
-rising-law g s bit =
-    let may = g .R·Rule .allows (s .below) bit in
-    let least = g .R·Rule .least (s .below) bit in
-    let worst = g .R·Rule .worst (s .below) bit in
-    answered-rising (longer-least (s .ticks) least) (longer-worst (s .ticks) worst) (longer-many (s .ticks) least worst (g .R·Rule·met .crowded (s .below) bit)) (longer-rising (s .ticks) least worst (g .R·Rule·met .rising (s .below) bit))
+rising-law g s bit = switched-lawful (s .ticks) _ _ _ (record { bounded = g .R·Rule·met .bounded (s .below) bit; patient = g .R·Rule·met .patient (s .below) bit; rising = g .R·Rule·met .rising (s .below) bit; ranged = g .R·Rule·met .ranged (s .below) bit; unfit = g .R·Rule·met .unfit (s .below) bit; beyond = g .R·Rule·met .beyond (s .below) bit; crowded = g .R·Rule·met .crowded (s .below) bit }) .rising
 
 pub ranged-law : need.ranged-law
-ranged-law g s bit =
-    let may = g .R·Rule .allows (s .below) bit in
-    let least = g .R·Rule .least (s .below) bit in
-    let worst = g .R·Rule .worst (s .below) bit in
-    answered-ranged (longer-least (s .ticks) least) (longer-worst (s .ticks) worst) (longer-many (s .ticks) least worst (g .R·Rule·met .crowded (s .below) bit)) (longer-ranged (s .ticks) least worst (g .R·Rule·met .ranged (s .below) bit))
+ranged-law g s bit = switched-lawful (s .ticks) _ _ _ (record { bounded = g .R·Rule·met .bounded (s .below) bit; patient = g .R·Rule·met .patient (s .below) bit; rising = g .R·Rule·met .rising (s .below) bit; ranged = g .R·Rule·met .ranged (s .below) bit; unfit = g .R·Rule·met .unfit (s .below) bit; beyond = g .R·Rule·met .beyond (s .below) bit; crowded = g .R·Rule·met .crowded (s .below) bit }) .ranged
 
 pub unfit-law : need.unfit-law
-unfit-law g s bit =
-    let may = g .R·Rule .allows (s .below) bit in
-    let least = g .R·Rule .least (s .below) bit in
-    let worst = g .R·Rule .worst (s .below) bit in
-    answered-unfit (longer-least (s .ticks) least) (longer-worst (s .ticks) worst) (longer-many (s .ticks) least worst (g .R·Rule·met .crowded (s .below) bit))
+unfit-law g s bit = switched-lawful (s .ticks) _ _ _ (record { bounded = g .R·Rule·met .bounded (s .below) bit; patient = g .R·Rule·met .patient (s .below) bit; rising = g .R·Rule·met .rising (s .below) bit; ranged = g .R·Rule·met .ranged (s .below) bit; unfit = g .R·Rule·met .unfit (s .below) bit; beyond = g .R·Rule·met .beyond (s .below) bit; crowded = g .R·Rule·met .crowded (s .below) bit }) .unfit
 
 pub beyond-law : need.beyond-law
-beyond-law g s bit =
-    let may = g .R·Rule .allows (s .below) bit in
-    let least = g .R·Rule .least (s .below) bit in
-    let worst = g .R·Rule .worst (s .below) bit in
-    answered-beyond (longer-least (s .ticks) least) (longer-worst (s .ticks) worst) (longer-many (s .ticks) least worst (g .R·Rule·met .crowded (s .below) bit))
+beyond-law g s bit = switched-lawful (s .ticks) _ _ _ (record { bounded = g .R·Rule·met .bounded (s .below) bit; patient = g .R·Rule·met .patient (s .below) bit; rising = g .R·Rule·met .rising (s .below) bit; ranged = g .R·Rule·met .ranged (s .below) bit; unfit = g .R·Rule·met .unfit (s .below) bit; beyond = g .R·Rule·met .beyond (s .below) bit; crowded = g .R·Rule·met .crowded (s .below) bit }) .beyond
 
 pub crowded-law : need.crowded-law
-crowded-law g s bit =
-    let may = g .R·Rule .allows (s .below) bit in
-    let least = g .R·Rule .least (s .below) bit in
-    let worst = g .R·Rule .worst (s .below) bit in
-    answered-crowded (longer-least (s .ticks) least) (longer-worst (s .ticks) worst) (longer-many (s .ticks) least worst (g .R·Rule·met .crowded (s .below) bit))
+crowded-law g s bit = switched-lawful (s .ticks) _ _ _ (record { bounded = g .R·Rule·met .bounded (s .below) bit; patient = g .R·Rule·met .patient (s .below) bit; rising = g .R·Rule·met .rising (s .below) bit; ranged = g .R·Rule·met .ranged (s .below) bit; unfit = g .R·Rule·met .unfit (s .below) bit; beyond = g .R·Rule·met .beyond (s .below) bit; crowded = g .R·Rule·met .crowded (s .below) bit }) .crowded
