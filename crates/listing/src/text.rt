@@ -1,0 +1,169 @@
+//! Reading a text: a line with the bit time, then a line for each row.
+ghost use mathlib.Core.Path.{_≡_};
+ghost use mathlib.Core.List.{List};
+ghost use Prim.Native.Nat.{ℕ, _+_, _^_, _<_};
+ghost use Rattle.std.specs.Numbers.{Checked};
+ghost use Rattle.std.specs.Of.Vec.{vec-items};
+ghost use Rattle.std.specs.Orderings.{When};
+ghost use Rattle.std.specs.Reads.{Numeral, value};
+ghost use Rattle.std.specs.Results.{Cases};
+ghost use Rattle.std.specs.Vec.{made};
+ghost use Rattle.listing.specs.Said.{Writes, Trims, Words, RowWords, RowLine, PassedOver, Worded, Takes, Says};
+ghost use Rattle.listing.specs.Texts.{texts, Unreadable, NumberWrong, RowWrong, LineWrong, newlines};
+use crate::fault::Fault;
+use crate::fault::Field;
+use crate::fault::Wrong;
+use crate::fault::WrongFromAlloc;
+use crate::fault::WrongFromRefused;
+use service::Record;
+use std::alloc::AllocError;
+use std::alloc::Global;
+
+/// What a text says of one resource.
+#[derive(Drop)]
+pub struct Resource {
+    pub bit_time: u8,
+    pub records: Vec<Record>,
+}
+
+/// The number that a word writes in decimal, if it is one below 2 ^ 32.
+fn number(word: &str) -> Option<u32>
+    ensures { λ r. ⌜ Checked r (Numeral 10 (now (word .entry)) × (value 10 (now (word .entry)) < 2 ^ 32)) (value 10 (now (word .entry))) ⌝ }
+{
+    match word.as_bytes() {
+        [b'+', ..] => None,
+        _ => word.parse::<u32>().ok(),
+    }
+}
+
+/// Whether a line is a comment, or blank.
+fn is_passed_over(line: &str) -> bool
+    ensures { λ r. ⌜ When r (PassedOver (now (line .entry))) (Worded (now (line .entry))) ⌝ }
+{
+    line.starts_with('#') || line.split_whitespace().next().is_none()
+}
+
+/// The bit time that a line says.
+fn bit_time_of<'a>(line: &'a str) -> Result<u8, Wrong<'a>>
+    ensures { λ r. ⌜ ((word : List ℕ) × Trims (now (line .entry)) word × Cases r (λ n. Writes word n) (λ _. Unreadable 256 word)) ⌝ }
+{
+    let found = line.trim();
+    let wrong = Wrong::BitTime(found);
+    let n = number(found).ok_or(wrong)?;
+    if n > 255 {
+        return Err(wrong);
+    }
+    Ok(n as u8)
+}
+
+/// The number that a word writes for a field.
+fn number_of<'a>(field: Field, word: &'a str) -> Result<u32, Wrong<'a>>
+    ensures { λ r. ⌜ Cases r (λ n. Writes (now (word .entry)) n) (λ e. NumberWrong field (now (word .entry)) e) ⌝ }
+{
+    number(word).ok_or(Wrong::Number(field, word))
+}
+
+/// The words of a line.
+fn words_of<'a>(heap: Global, line: &'a str) -> Result<Vec<&'a str>, AllocError>
+    ensures { λ r. ⌜ made r (λ v. Words (now (line .entry)) (texts (vec-items v))) ⌝ }
+{
+    line.split_whitespace().collect(heap)
+}
+
+/// The row that five words say.
+fn record_of<'a>(words: &[&'a str]) -> Result<Record, Wrong<'a>>
+    ensures { λ r. ⌜ Cases r (λ told. RowWords (texts (now (words .entry))) told) (λ e. RowWrong (texts (now (words .entry))) e) ⌝ }
+{
+    if words.len() != 5 {
+        return Err(Wrong::Count(words.len()));
+    }
+    Ok(Record {
+        priority: number_of(Field::Priority, words[0])?,
+        period: number_of(Field::Period, words[1])?,
+        jitter: number_of(Field::Jitter, words[2])?,
+        least: number_of(Field::Least, words[3])?,
+        greatest: number_of(Field::Greatest, words[4])?,
+    })
+}
+
+/// The row that a line says.
+fn row_of<'a>(heap: Global, line: &'a str) -> Result<Record, Wrong<'a>>
+    ensures { λ r. ⌜ Cases r (λ told. RowLine (now (line .entry)) told) (λ e. LineWrong (now (line .entry)) e) ⌝ }
+{
+    let words = words_of(heap, line)?;
+    record_of(words.as_slice())
+}
+
+/// What the lines so far said.
+#[derive(Drop)]
+struct Reader {
+    bit_time: Option<u8>,
+    records: Vec<Record>,
+}
+
+impl Reader {
+    /// Takes what the next line says.
+    fn take<'a>(&mut self, heap: Global, line: &'a str) -> Result<(), Wrong<'a>>
+        ensures { λ r. ⌜ made r (λ _. Takes (now (self .entry) .«bit_time») (vec-items (now (self .entry) .records)) (now (line .entry)) (now (self .exit) .«bit_time») (vec-items (now (self .exit) .records))) ⌝ }
+    {
+        if is_passed_over(line) {
+            return Ok(());
+        }
+        match self.bit_time {
+            None => self.bit_time = Some(bit_time_of(line)?),
+            Some(_) => self.records.push(row_of(heap, line)?)?,
+        }
+        Ok(())
+    }
+}
+
+/// What a text says, or what is wrong with the first line that cannot be read.
+fn resource_of<'a>(heap: Global, text: &'a str) -> Result<Resource, Fault<'a>>
+    ensures { λ r. ⌜ made r (λ told. Says (now (text .entry)) (told .«bit_time») (vec-items (told .records))) ⌝ }
+{
+    let mut reader = Reader {
+        bit_time: None,
+        records: Vec::new(heap),
+    };
+    let mut line = 0;
+    for said in text.lines() {
+        line += 1;
+        if let Err(wrong) = reader.take(heap, said) {
+            return Err(Fault { line, wrong });
+        }
+    }
+    let Reader { bit_time, records } = reader;
+    match bit_time {
+        Some(bit_time) => Ok(Resource { bit_time, records }),
+        None => Err(Fault {
+            line: line + 1,
+            wrong: Wrong::End,
+        }),
+    }
+}
+
+/// The line, counted from 1, that the bytes before it lead to.
+fn line_after(before: &[u8]) -> usize
+    ensures { λ r. ⌜ r ≡ 1 + newlines (now (before .entry)) ⌝ }
+{
+    let mut line = 1;
+    for byte in before {
+        if *byte == b'\n' {
+            line += 1;
+        }
+    }
+    line
+}
+
+/// What bytes say, which have to be text.
+pub fn read<'a>(heap: Global, bytes: &'a [u8]) -> Result<Resource, Fault<'a>>
+    ensures { λ r. ⌜ made r (λ told. Says (now (bytes .entry)) (told .«bit_time») (vec-items (told .records))) ⌝ }
+{
+    match std::str::from_utf8(bytes) {
+        Ok(text) => resource_of(heap, text),
+        Err(error) => Err(Fault {
+            line: line_after(&bytes[0..error.valid_up_to()]),
+            wrong: Wrong::Encoding,
+        }),
+    }
+}

@@ -1,0 +1,2 @@
+-- What the contracts of the answers cite.
+pub mod Answered
