@@ -1,0 +1,4 @@
+-- The proof of the instance.
+pub mod Pair
+pub mod Ran
+pub mod Allowed
