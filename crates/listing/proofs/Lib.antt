@@ -1,2 +1,3 @@
+-- Lemmas on what a text says.
 pub mod Sofar
 pub mod Spoken

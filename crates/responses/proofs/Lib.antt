@@ -1,1 +1,2 @@
+-- Lemmas on lists that grow.
 pub mod Grown
