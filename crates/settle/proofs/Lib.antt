@@ -1,0 +1,7 @@
+pub mod Followers
+pub mod Fronts
+pub mod Sweeping
+pub mod Moves
+pub mod Leads
+pub mod Records
+pub mod Stale

@@ -1,0 +1,59 @@
+-- How the sweeps go on and end.
+use mathlib.Core.Path.{_≡_, ap, subst, _∙_}
+use Prim.Native.Nat.{ℕ, _+_}
+use native.Mathlib.Omega.{arith}
+use lib.ListN.{length}
+use Rattle.tables.specs.Tables.{Numbers}
+use Rattle.tables.specs.Stands.{Lawful}
+use Rattle.settle.specs.Settled.{Moving}
+use Rattle.settle.specs.Sweeps.{front}
+use Rattle.settle.proofs.Moves.{moving-none, moving-more, moving-all, swept-next, still-here, narrow-next, failing-here, ends-still, ends-failing, left-still}
+use Rattle.settle.proofs.sweeps.sweep_all.Needs as need
+use Rattle.settle.proofs.sweeps.sweep_all.Given as given
+
+-- the rule's laws
+laws : (g : given.Over) (rule : g .R .Denot) → Lawful (g .R·Rule .allows rule) (record { least = g .R·Rule .least rule; worst = g .R·Rule .worst rule })
+laws g rule = record {
+  bounded = g .R·Rule·met .bounded rule;
+  patient = g .R·Rule·met .patient rule;
+  rising = g .R·Rule·met .rising rule;
+  ranged = g .R·Rule·met .ranged rule;
+  unfit = g .R·Rule·met .unfit rule;
+}
+
+pub loop-made-holds : need.loop-made-holds
+loop-made-holds g c = (moving-none _ _ _, c .pre .first, c .pre .fresh)
+
+pub sweep-requires : need.sweep-requires
+sweep-requires g c κs = record {
+  valid = c .pre .valid;
+  based = c .pre .based;
+  chained = c .pre .chained;
+  fresh = c .loop-made .inv .2;
+  narrow = narrow-next _ _ _ (c .loop-made .made) _ (c .loop-made .inv .0) (c .loop-made .inv .1) _ (laws g (c .args .rule .now)) (c .pre .valid);
+}
+
+pub returns-in-Missing : need.returns-in-Missing
+returns-in-Missing g c =
+    let here = failing-here _ _ _ (c .loop-made .made) _ (c .loop-made .inv .0) (c .loop-made .inv .1) _ (laws g (c .args .rule .now)) (c .pre .valid) (c .in-Missing .place) (c .in-Missing .ensures tt) in
+    record { ends = ends-failing _ _ _ (c .args .budget) (c .loop-made .made) _ _ (c .loop-made-test .taken) here; left = tt }
+
+pub returns-in-Still : need.returns-in-Still
+returns-in-Still g c =
+    let swept = c .in-Still .ensures tt in
+    let here = still-here _ _ _ (c .loop-made .made) _ (c .loop-made .inv .0) (c .loop-made .inv .1) (swept .0) (swept .1) in
+    record {
+      ends = ends-still _ _ _ (c .args .budget) (c .loop-made .made) (c .loop-made-test .taken) here;
+      left = left-still _ _ _ (c .loop-made .made) _ _ _ (swept .2) (c .loop-made .inv .1) (swept .3);
+    }
+
+pub loop-made-again : need.loop-made-again
+loop-made-again g c =
+    let swept = c .in-Altered .ensures tt in (
+      moving-more _ _ _ (c .loop-made .made) _ (c .loop-made .inv .0) (c .loop-made .inv .1) (swept .0) (swept .1),
+      swept-next _ _ _ (c .loop-made .made) _ (c .loop-made .inv .0) (c .loop-made .inv .1) _ (swept .2),
+      swept .3,
+    )
+
+pub returns : need.returns
+returns g c = record { ends = moving-all _ _ _ (c .loop-made .made) (c .args .budget) (omega arith) (c .loop-made .inv .0); left = tt }

@@ -1,0 +1,3 @@
+-- Lemmas on lists of visits.
+pub mod Following
+pub mod Tabled
