@@ -13,7 +13,7 @@ use Rattle.items.specs.declared.Item.{Item}
 use Rattle.items.specs.Items.{item-at}
 use Rattle.items.specs.Conditions.{bit-time}
 use Rattle.items.specs.Valid.{Valid}
-use Rattle.tables.specs.Demands.{Span, nowhere, span, place-on, place-of}
+use Rattle.tables.specs.Demands.{Span, nowhere, span, place-on}
 use Rattle.tables.specs.Tables.{Numbers, least-at, blank, lead-within, lead, first-window, first-table}
 use Rattle.tables.specs.Stands.{Lawful}
 use Rattle.tables.proofs.Chains.{Link, head-or-link, no-head}

@@ -1,3 +1,4 @@
+-- The lemmas that the proofs share.
 pub mod Followers
 pub mod Fronts
 pub mod Sweeping

@@ -1,9 +1,9 @@
 -- A sweep from the answers of a rule.
 use mathlib.Core.Path.{_≡_, sym, ap, subst, _∙_}
-use mathlib.Core.Bool.{Bool, true, false}
+use mathlib.Core.Bool.{Bool, true}
 use mathlib.Core.List.{List}
 use mathlib.Core.Logic.{⊎-elim}
-use Prim.Native.Nat.{ℕ, _+_, _-_, _≤_, _<_}
+use Prim.Native.Nat.{ℕ, _+_, _-_, _<_}
 use native.Mathlib.Omega.{arith}
 use native.Mathlib.Nat.{sub-zero}
 use lib.ListN.{length}
@@ -12,7 +12,7 @@ use Rattle.items.specs.declared.Item.{Item}
 use Rattle.items.specs.Items.{item-at}
 use Rattle.items.specs.Valid.{Valid}
 use Rattle.tables.specs.Demands.{Span, span, place-of}
-use Rattle.tables.specs.Tables.{Numbers, worst-or-0, least-at, worst-at, All-bounded, next-window, swept}
+use Rattle.tables.specs.Tables.{Numbers, worst-or-0, All-bounded, next-window, swept}
 use Rattle.tables.proofs.Chains.{Link, head-or-link, no-head, place-found}
 use Rattle.tables.proofs.Swept as tables
 use Rattle.consult.specs.Answers.{Answered}

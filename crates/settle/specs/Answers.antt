@@ -2,16 +2,13 @@
 use mathlib.Core.Path.{_≡_}
 use mathlib.Core.List.{List}
 use Prim.Native.Nat.{ℕ, _<_}
-use lib.ListN.{getD}
 use Rattle.std.specs.declared.option.Option.the-variants.{Some, None}
 use Rattle.service.specs.declared.Response.{Response}
+use Rattle.consult.specs.Answers.{answer}
 
--- what a read past the end gives
-abbrev pub no-answer : Response
-no-answer = record { least = 0; worst = None }
-
+-- the answer at a place
 abbrev pub answer-at : List Response → ℕ → Response
-answer-at answers k = getD answers k no-answer
+answer-at answers k = answer answers k
 
 -- the answers at the first places have a worst
 abbrev pub All-answered : List Response → ℕ → Type 0

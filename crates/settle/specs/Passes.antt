@@ -28,13 +28,15 @@ pub record Narrow (w : Span) : Type 0 where
 abbrev pub Agree : List Span → List Span → ℕ → Type 0
 Agree ws vs n = (k : ℕ) → k < n → span ws k ≡ span vs k
 
+-- the window of a head
 abbrev pub head-window : ℕ → Span
 head-window delay = record { from = 0; to = delay }
 
--- the window after one of its answers: that of a finish, and of a successor's release
+-- the window of a finish by that of its release and the answer, which is that of a successor's release
 abbrev pub after : Span → Response → Span
 after w a = record { from = w .from + a .least; to = w .to + worst-or-0 (a .worst) }
 
+-- the same with no response but the least, as in the first table
 abbrev pub lead-after : Span → Response → Span
 lead-after w a = record { from = w .from + a .least; to = w .from + a .least }
 
@@ -65,10 +67,11 @@ Alters ws vs n false = Agree ws vs n
 abbrev pub jitter-of : Span → ℕ
 jitter-of w = w .to - w .from
 
--- the marks of the resources, the first resource first, and that every resource of an item has room among them
+-- the mark of an item's resource, the first resource's first
 abbrev pub mark-of : List Bool → Item → Bool
 mark-of marks x = getD marks (x .resource - 1) false
 
+-- every item's resource has room among sixteen marks
 abbrev pub Few-resources : List Item → Type 0
 Few-resources xs = (k : ℕ) → k < length xs → (1 ≤ item-at xs k .resource) × (item-at xs k .resource ≤ 16)
 

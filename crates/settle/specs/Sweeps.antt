@@ -1,4 +1,4 @@
--- What one sweep comes to.
+-- What one sweep comes to, and what the sweeps leave.
 use mathlib.Core.Path.{_≡_}
 use mathlib.Core.Bool.{Bool, false}
 use mathlib.Core.List.{List}

@@ -1,6 +1,6 @@
 //! The sweeps of a settle.
 ghost use mathlib.Core.Path.{_≡_};
-ghost use Prim.Native.Nat.{ℕ, _-_, _≤_, _<_};
+ghost use Prim.Native.Nat.{ℕ, _-_, _<_};
 ghost use lib.ListN.{length};
 ghost use Rattle.items.specs.Valid.{Valid};
 ghost use Rattle.tables.specs.Demands.{span};
@@ -102,7 +102,7 @@ fn sweep<R: Rule>(
 }
 
 /// The sweeps from the first table on, until one alters nothing or the budget is spent: how many there were.
-pub(crate) fn sweep_all<R: Rule>(
+fn sweep_all<R: Rule>(
     rule: &R,
     bits: &[u8],
     items: &[Item],

@@ -1,5 +1,4 @@
 //! The verdict on an item: how its finish window lies against two bounds.
-ghost use mathlib.Core.Path.{_≡_};
 ghost use Rattle.std.specs.Options.{Cases as BySome};
 ghost use Rattle.settle.specs.Rows.{Absent, First-row};
 ghost use Rattle.settle.specs.Verdicts.{Judged};

@@ -1,12 +1,12 @@
 //! Single passes over the windows of a plan's items.
 ghost use mathlib.Core.Path.{_≡_};
 ghost use mathlib.Core.Bool.{true};
-ghost use Prim.Native.Nat.{ℕ, _+_, _*_, _≤_, _<_};
+ghost use Prim.Native.Nat.{ℕ, _+_, _≤_, _<_};
 ghost use lib.ListN.{length, replicate};
 ghost use Rattle.std.specs.Options.{Cases as BySome};
 ghost use Rattle.items.specs.Items.{item-at};
 ghost use Rattle.tables.specs.Tables.{worst-or-0};
-ghost use Rattle.tables.specs.Demands.{nowhere, span};
+ghost use Rattle.tables.specs.Demands.{nowhere};
 ghost use Rattle.settle.specs.Answers.{All-answered, Lowest-none, answer-at};
 ghost use Rattle.consult.specs.Windows.{span-of, spans-of};
 ghost use Rattle.settle.specs.Passes.{Chained, Narrow, head-window, after, lead-after, window-by, Renewed, Led, Differs, Alters, jitter-of, Few-resources, Marked};

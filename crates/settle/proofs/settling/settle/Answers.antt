@@ -51,7 +51,7 @@ returns g c =
     (λ b x. Settled (g .R·Rule .allows (c .args .rule .now)) (record { least = g .R·Rule .least (c .args .rule .now); worst = g .R·Rule .worst (c .args .rule .now) }) b x (c .args .budget) (c .args .table .now) (c .write .last .table) (Ok (c .in-Continue-sweeps .sweeps)))
     (c .bit-times-bits .ensures) (c .items-items .ensures)
     (settled-count _ _ bits xs (c .args .budget) (c .in-Continue-sweeps .sweeps) (c .steady .last .windows) (c .steady .last .answers) (c .args .table .now) (c .write .last .table)
-    (laws g (c .args .rule .now)) valid (omega arith, omega arith) (c .if-table-items .left) (made .ends) (made .left) (omega arith) (c .write .ensures .rows) (c .write .ensures .rest))
+    (laws g (c .args .rule .now)) valid (omega arith, omega arith) (omega arith) (made .ends) (made .left) (omega arith) (c .write .ensures .rows) (c .write .ensures .rest))
 
 pub returns-in-Break-sweeps : need.returns-in-Break-sweeps
 returns-in-Break-sweeps g c =
@@ -62,4 +62,4 @@ returns-in-Break-sweeps g c =
     of-plan (c .args .plan .now) bits xs
     (λ b x. Settled (g .R·Rule .allows (c .args .rule .now)) (record { least = g .R·Rule .least (c .args .rule .now); worst = g .R·Rule .worst (c .args .rule .now) }) b x (c .args .budget) (c .args .table .now) (c .args .table .now) (c .from-residual .result))
     (c .bit-times-bits .ensures) (c .items-items .ensures)
-    (settled-fault _ _ bits xs (c .args .budget) (c .args .table .now) (c .in-Break-sweeps .field-0 .0) (c .from-residual .result) (out .1 ∙ ap Err (out .2)) (omega arith, omega arith) (c .if-table-items .left) (made .ends))
+    (settled-fault _ _ bits xs (c .args .budget) (c .args .table .now) (c .in-Break-sweeps .field-0 .0) (c .from-residual .result) (out .1 ∙ ap Err (out .2)) (omega arith, omega arith) (omega arith) (made .ends))

@@ -1,11 +1,9 @@
 -- The first table comes of the answers to empty windows.
-use mathlib.Core.Path.{_≡_, sym, subst, _∙_}
+use mathlib.Core.Path.{sym, subst}
 use Prim.Native.Nat.{_≤_}
 use native.Mathlib.Omega.{arith}
 use lib.ListN.{length}
-use Rattle.tables.specs.Demands.{Span}
 use Rattle.tables.specs.Stands.{Lawful}
-use Rattle.consult.specs.Answers.{Answered}
 use Rattle.settle.proofs.Sweeping.{told-front}
 use Rattle.settle.proofs.Leads.{short-delays, least-high, front-first, told-empty}
 use Rattle.settle.proofs.Stale.{few-resources, fresh-after}

@@ -1,12 +1,6 @@
 -- How the sweeps go on and end.
-use mathlib.Core.Path.{_≡_, ap, subst, _∙_}
-use Prim.Native.Nat.{ℕ, _+_}
 use native.Mathlib.Omega.{arith}
-use lib.ListN.{length}
-use Rattle.tables.specs.Tables.{Numbers}
 use Rattle.tables.specs.Stands.{Lawful}
-use Rattle.settle.specs.Settled.{Moving}
-use Rattle.settle.specs.Sweeps.{front}
 use Rattle.settle.proofs.Moves.{moving-none, moving-more, moving-all, swept-next, still-here, narrow-next, failing-here, ends-still, ends-failing, left-still}
 use Rattle.settle.proofs.sweeps.sweep_all.Needs as need
 use Rattle.settle.proofs.sweeps.sweep_all.Given as given

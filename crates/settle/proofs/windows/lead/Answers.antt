@@ -6,7 +6,7 @@ use borrow.Author.Count.{below-more}
 use lib.ListN.{length, length-set}
 use Rattle.tables.specs.Demands.{Span, span}
 use Rattle.consult.specs.Windows.{spans-of}
-use Rattle.settle.specs.Passes.{Agree, lead-after, window-by}
+use Rattle.settle.specs.Passes.{lead-after, window-by}
 use Rattle.settle.proofs.Followers.{set-here, set-others, by-earlier, lead-low}
 use Rattle.settle.proofs.windows.lead.Needs as need
 

@@ -2,7 +2,7 @@
 use mathlib.Core.Path.{sym, subst, _∙_}
 use native.Mathlib.Omega.{arith}
 use Rattle.settle.specs.Passes.{Narrow, lead-after}
-use Rattle.settle.proofs.Followers.{by-head, by-link}
+use Rattle.settle.proofs.Followers.{by-link}
 use Rattle.settle.proofs.windows.led_at.Needs as need
 
 pub window-leading-requires : need.window-leading-requires

@@ -2,7 +2,7 @@
 use mathlib.Core.Path.{sym, subst, _∙_}
 use native.Mathlib.Omega.{arith}
 use Rattle.settle.specs.Passes.{Narrow, after}
-use Rattle.settle.proofs.Followers.{by-head, by-link}
+use Rattle.settle.proofs.Followers.{by-link}
 use Rattle.settle.proofs.windows.renewed_at.Needs as need
 
 pub window-after-requires : need.window-after-requires
