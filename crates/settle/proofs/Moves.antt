@@ -6,7 +6,6 @@ use native.Mathlib.Omega.{arith}
 use native.Mathlib.Numerals.{add-one}
 use borrow.Author.Count.{below-more}
 use lib.ListN.{length}
-use Rattle.std.specs.declared.result.Result.the-variants.{Ok, Err}
 use Rattle.service.specs.declared.Record.{Record}
 use Rattle.service.specs.declared.Response.{Response}
 use Rattle.service.specs.Traces.{Trace}
@@ -17,10 +16,9 @@ use Rattle.tables.specs.Demands.{Span, span}
 use Rattle.tables.specs.Tables.{Numbers, All-bounded, swept, table}
 use Rattle.tables.specs.Stands.{Lawful, Settles}
 use Rattle.tables.proofs.Settling.{settling}
-use Rattle.settle.specs.declared.Fault.the-variants.{Unbounded}
 use Rattle.consult.specs.Answers.{Answered}
 use Rattle.settle.specs.Passes.{Narrow}
-use Rattle.settle.specs.Settled.{Lowest, Moving, Still, Failing, Ends}
+use Rattle.settle.specs.Settled.{Lowest, Moving, Still, Failing}
 
 module _ (rule : Numbers) (bits : List ℕ) (xs : List Item) where
   pub moving-none : Moving rule bits xs 0
@@ -61,18 +59,17 @@ module _ (rule : Numbers) (bits : List ℕ) (xs : List Item) where
           let lowest : Lowest rule bits xs (table rule bits xs n) at = subst (λ (vs : List Span). Lowest rule bits xs vs at) is low in
           record { before = moving; at = at; lowest = lowest; item = refl; on = refl; hopeless = settles .none n at (lowest .within) (lowest .none) }
 
-  back : (n : ℕ) → n + 1 - 1 ≡ n
-  back n = omega arith
+  pub still-at : (n m : ℕ) → n ≡ m → Still rule bits xs n → Still rule bits xs m
+  still-at n m e = subst (Still rule bits xs) e
 
-  pub ends-still : (budget n : ℕ) → n < budget → Still rule bits xs n → Ends rule bits xs budget (Ok (n + 1))
-  ends-still budget n h still = (omega arith, omega arith, rw (back n) still)
+  pub failing-at : (n m number resource : ℕ) → n ≡ m → Failing rule bits xs n number resource → Failing rule bits xs m number resource
+  failing-at n m number resource e = subst (λ (l : ℕ). Failing rule bits xs l number resource) e
 
-  pub ends-failing : (budget n number resource : ℕ) → n < budget → Failing rule bits xs n number resource → Ends rule bits xs budget (Err (Unbounded number resource (n + 1)))
-  ends-failing budget n number resource h failing = (omega arith, omega arith, rw (back n) failing)
+  pub moving-at : (n m : ℕ) → n ≡ m → Moving rule bits xs n → Moving rule bits xs m
+  moving-at n m e = subst (Moving rule bits xs) e
 
-  pub moving-all : (n m : ℕ) → n ≡ m → Moving rule bits xs n → Moving rule bits xs m
-  moving-all n m e = subst (Moving rule bits xs) e
+  pub table-at : (n m : ℕ) → n ≡ m → (ws vs : List Span) → vs ≡ ws → ws ≡ table rule bits xs n → vs ≡ table rule bits xs m
+  table-at n m e ws vs kept is = kept ∙ is ∙ ap (table rule bits xs) e
 
-  pub left-still : (n : ℕ) (ws vs : List Span) (answers : List Response) → vs ≡ ws → ws ≡ table rule bits xs n → Answered rule bits xs ws answers
-      → (vs ≡ table rule bits xs (n + 1 - 1)) × Answered rule bits xs vs answers
-  left-still n ws vs answers kept is told = (rw (back n) (kept ∙ is), subst (λ (us : List Span). Answered rule bits xs us answers) (sym kept) told)
+  pub told-kept : (ws vs : List Span) (answers : List Response) → vs ≡ ws → Answered rule bits xs ws answers → Answered rule bits xs vs answers
+  told-kept ws vs answers kept = subst (λ (us : List Span). Answered rule bits xs us answers) (sym kept)

@@ -41,6 +41,17 @@ steady-requires g c κs =
     let valid = told-valid (c .args .plan .now) (c .bit-times-bits .result .now) (c .items-items .result .now) (c .bit-times-bits .ensures) (c .items-items .ensures) in
     record { valid = valid; empty = front-empty (c .empty-windows-windows .result) (length (c .items-items .result .now)) (c .empty-windows-windows .ensures) (valid .size) }
 
+pub returns-in-Break-sweeps : need.returns-in-Break-sweeps
+returns-in-Break-sweeps g c =
+    let bits = c .bit-times-bits .result .now in
+    let xs = c .items-items .result .now in
+    let made = c .in-Break-sweeps .ensures tt in
+    let out = err-from-errBy (c .from-residual .result) (c .from-residual .ensures .1) in
+    of-plan (c .args .plan .now) bits xs
+    (λ b x. Settled (g .R·Rule .allows (c .args .rule .now)) (record { least = g .R·Rule .least (c .args .rule .now); worst = g .R·Rule .worst (c .args .rule .now) }) b x (c .args .budget) (c .args .table .now) (c .args .table .now) (c .from-residual .result))
+    (c .bit-times-bits .ensures) (c .items-items .ensures)
+    (settled-fault _ _ bits xs (c .args .budget) (c .args .table .now) (c .in-Break-sweeps .field-0 .0) (c .from-residual .result) (out .1 ∙ ap Err (out .2)) (omega arith, omega arith) (omega arith) (made .ends))
+
 pub returns : need.returns
 returns g c =
     let bits = c .bit-times-bits .result .now in
@@ -52,14 +63,3 @@ returns g c =
     (c .bit-times-bits .ensures) (c .items-items .ensures)
     (settled-count _ _ bits xs (c .args .budget) (c .in-Continue-sweeps .sweeps) (c .steady .last .windows) (c .steady .last .answers) (c .args .table .now) (c .write .last .table)
     (laws g (c .args .rule .now)) valid (omega arith, omega arith) (omega arith) (made .ends) (made .left) (omega arith) (c .write .ensures .rows) (c .write .ensures .rest))
-
-pub returns-in-Break-sweeps : need.returns-in-Break-sweeps
-returns-in-Break-sweeps g c =
-    let bits = c .bit-times-bits .result .now in
-    let xs = c .items-items .result .now in
-    let made = c .in-Break-sweeps .ensures tt in
-    let out = err-from-errBy (c .from-residual .result) (c .from-residual .ensures .1) in
-    of-plan (c .args .plan .now) bits xs
-    (λ b x. Settled (g .R·Rule .allows (c .args .rule .now)) (record { least = g .R·Rule .least (c .args .rule .now); worst = g .R·Rule .worst (c .args .rule .now) }) b x (c .args .budget) (c .args .table .now) (c .args .table .now) (c .from-residual .result))
-    (c .bit-times-bits .ensures) (c .items-items .ensures)
-    (settled-fault _ _ bits xs (c .args .budget) (c .args .table .now) (c .in-Break-sweeps .field-0 .0) (c .from-residual .result) (out .1 ∙ ap Err (out .2)) (omega arith, omega arith) (omega arith) (made .ends))

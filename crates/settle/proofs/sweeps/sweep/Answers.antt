@@ -28,9 +28,10 @@ stale-resources-requires g c κs = record { few = c .pre .chained .few; resource
 pub returns-then-altered : need.returns-then-altered
 returns-then-altered g c =
     let xs = c .args .items .now in
+    let differs = c .if-altered .ensures tt in
     let told = told-renewed _ _ _ _ _ _ (c .renew .last .answers) (c .pre .fresh) (renewed-front _ _ _ (c .args .windows .now) _ _ _ (length xs) (c .renew .ensures)) in (
       all-bounded _ _ _ _ (c .renew .last .answers) told (c .in-rest .ensures tt),
-      swept-moved _ _ _ (c .pre .valid) (c .args .links .now) (c .pre .chained) (c .args .windows .now) (c .told-windows) (c .renew .last .answers) told (c .renew-windows .last .next) (omega arith) (c .renew-windows .ensures) (c .if-altered .ensures tt),
+      swept-moved _ _ _ (c .pre .valid) (c .args .links .now) (c .pre .chained) (c .args .windows .now) (c .told-windows) (c .renew .last .answers) told (c .renew-windows .last .next) (omega arith) (c .renew-windows .ensures) (differs .0, (omega (arith, differs .1 .0), differs .1 .1)),
       front-swept _ _ _ (c .pre .valid) (c .args .links .now) (c .pre .chained) (c .args .windows .now) (c .told-windows) (c .renew .last .answers) told (c .renew-windows .last .next) (omega arith) (c .renew-windows .ensures),
       fresh-after _ _ xs (c .args .windows .now) (c .renew-windows .last .next) (c .stale-resources .result) (c .renew .last .answers) (omega (arith, c .pre .chained .few)) (omega (arith, c .pre .chained .few)) told (c .stale-resources .ensures),
     )
@@ -40,7 +41,7 @@ returns g c =
     let xs = c .args .items .now in
     let told = told-renewed _ _ _ _ _ _ (c .renew .last .answers) (c .pre .fresh) (renewed-front _ _ _ (c .args .windows .now) _ _ _ (length xs) (c .renew .ensures)) in (
       all-bounded _ _ _ _ (c .renew .last .answers) told (c .in-rest .ensures tt),
-      swept-still _ _ _ (c .pre .valid) (c .args .links .now) (c .pre .chained) (c .args .windows .now) (c .told-windows) (c .renew .last .answers) told (c .renew-windows .last .next) (omega arith) (c .renew-windows .ensures) (c .if-altered .ensures tt),
+      swept-still _ _ _ (c .pre .valid) (c .args .links .now) (c .pre .chained) (c .args .windows .now) (c .told-windows) (c .renew .last .answers) told (c .renew-windows .last .next) (omega arith) (c .renew-windows .ensures) (λ k h. c .if-altered .ensures tt k (omega arith)),
       refl,
       told,
     )

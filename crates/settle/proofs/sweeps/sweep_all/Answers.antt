@@ -1,7 +1,7 @@
 -- How the sweeps go on and end.
 use native.Mathlib.Omega.{arith}
 use Rattle.tables.specs.Stands.{Lawful}
-use Rattle.settle.proofs.Moves.{moving-none, moving-more, moving-all, swept-next, still-here, narrow-next, failing-here, ends-still, ends-failing, left-still}
+use Rattle.settle.proofs.Moves.{moving-none, moving-more, moving-at, swept-next, still-here, still-at, narrow-next, failing-here, failing-at, table-at, told-kept}
 use Rattle.settle.proofs.sweeps.sweep_all.Needs as need
 use Rattle.settle.proofs.sweeps.sweep_all.Given as given
 
@@ -30,15 +30,15 @@ sweep-requires g c κs = record {
 pub returns-in-Missing : need.returns-in-Missing
 returns-in-Missing g c =
     let here = failing-here _ _ _ (c .loop-made .made) _ (c .loop-made .inv .0) (c .loop-made .inv .1) _ (laws g (c .args .rule .now)) (c .pre .valid) (c .in-Missing .place) (c .in-Missing .ensures tt) in
-    record { ends = ends-failing _ _ _ (c .args .budget) (c .loop-made .made) _ _ (c .loop-made-test .taken) here; left = tt }
+    record { ends = (omega arith, omega arith, failing-at _ _ _ (c .loop-made .made) _ _ _ (omega arith) here); left = tt }
 
 pub returns-in-Still : need.returns-in-Still
 returns-in-Still g c =
     let swept = c .in-Still .ensures tt in
     let here = still-here _ _ _ (c .loop-made .made) _ (c .loop-made .inv .0) (c .loop-made .inv .1) (swept .0) (swept .1) in
     record {
-      ends = ends-still _ _ _ (c .args .budget) (c .loop-made .made) (c .loop-made-test .taken) here;
-      left = left-still _ _ _ (c .loop-made .made) _ _ _ (swept .2) (c .loop-made .inv .1) (swept .3);
+      ends = (omega arith, omega arith, still-at _ _ _ (c .loop-made .made) _ (omega arith) here);
+      left = (table-at (record { least = g .R·Rule .least (c .args .rule .now); worst = g .R·Rule .worst (c .args .rule .now) }) (c .args .bits .now) (c .args .items .now) (c .loop-made .made) _ (omega arith) _ _ (swept .2) (c .loop-made .inv .1), told-kept _ _ _ _ _ _ (swept .2) (swept .3));
     }
 
 pub loop-made-again : need.loop-made-again
@@ -50,4 +50,7 @@ loop-made-again g c =
     )
 
 pub returns : need.returns
-returns g c = record { ends = moving-all _ _ _ (c .loop-made .made) (c .args .budget) (omega arith) (c .loop-made .inv .0); left = tt }
+returns g c = record { ends = moving-at _ _ _ (c .loop-made .made) (c .args .budget) (omega arith) (c .loop-made .inv .0); left = tt }
+
+pub add-result-in-Still : need.add-result-in-Still
+add-result-in-Still g c = omega arith

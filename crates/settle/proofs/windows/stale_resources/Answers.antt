@@ -2,7 +2,7 @@
 use mathlib.Core.Path.{_≡_, ap, subst, sym, _∙_}
 use mathlib.Core.Bool.{Bool, true}
 use mathlib.Core.List.{List}
-use Prim.Native.Nat.{ℕ, _+_, _-_, _<_}
+use Prim.Native.Nat.{_+_, _-_, _<_}
 use native.Mathlib.Omega.{arith}
 use lib.ListN.{length, set, length-set}
 use Rattle.items.specs.Items.{item-at}
@@ -26,7 +26,8 @@ loop-at-again c =
     elim (c .if-jitter .came) [
       | then-jitter w ↦
           let inside : item-at xs i .resource - 1 < length stale = omega (arith, bounds .0, bounds .1) in
-          subst Q (sym (w .stale-is ∙ ap (λ (r : ℕ). set stale (r - 1) true) (w .from .ensures)))
+          let is : c .if-jitter .stale ≡ set stale (item-at xs i .resource - 1) true = cc (w .stale-is, w .from .ensures) in
+          subst Q (sym is)
           (length-set _ _ _ ∙ long, marked-more xs (spans-of ws) (spans-of vs) stale i (c .loop-at .inv .1) inside)
       | else-jitter w ↦
           let few = c .pre .few in
