@@ -1,3 +1,2 @@
--- Lemmas on what a text says.
 pub mod Sofar
 pub mod Spoken

@@ -8,7 +8,8 @@ use Rattle.std.specs.declared.option.Option.{Option}
 use Rattle.std.specs.declared.option.Option.the-variants.{Some, None}
 use Rattle.std.specs.Lines as lines
 use Rattle.service.specs.declared.Record.{Record}
-use Rattle.listing.specs.Said.{PassedOver, BitLine, RowLine, Takes, Lines, Rows, Told, Says}
+use Rattle.words.specs.Spoken.{PassedOver}
+use Rattle.listing.specs.Said.{BitLine, RowLine, Takes, Lines, Rows, Told, Says}
 
 -- if the rest of the text says the rest, the text says all of it
 abbrev pub Sofar : List ℕ → List ℕ → Option ℕ → List Record → Type 0

@@ -1,37 +1,26 @@
 -- What the words of a line say.
 use mathlib.Core.Path.{_≡_, refl, sym, ap, subst, _∙_}
-use mathlib.Core.Bool.{Bool, true, false, not, cond}
-use mathlib.Core.Logic.{_⊎_, inl, inr, ⊎-elim}
-use mathlib.Core.List.{List, [], _∷_, _++_, map}
-use Prim.Native.Nat.{ℕ, zero, suc, _^_, _<_, _≤_}
+use mathlib.Core.List.{List, [], _++_}
+use mathlib.Core.Logic.{_≢_}
+use Prim.Native.Nat.{ℕ, _+_, _^_, _<_}
 use native.Mathlib.Omega.{arith}
+use borrow.Author.Count.{below-more}
+use lib.Seq.{getD-set-same, getD-set-other}
 use denote.Ref.{RefT}
-use lib.Dec.{eqb}
-use lib.ListN.{length, getD, take, drop, take-append-drop}
-use Rattle.std.specs.declared.option.Option.{Option}
-use Rattle.std.specs.declared.option.Option.the-variants.{Some, None}
-use Rattle.std.specs.declared.str.SplitWhitespace.{SplitWhitespace}
+use lib.ListN.{length, getD, set, take, drop, take-append-drop}
 use Rattle.std.specs.declared.result.Result.{Result}
 use Rattle.std.specs.declared.result.Result.the-variants.{Ok, Err}
-use Rattle.std.specs.Iters.{yields, Took}
-use Rattle.std.specs.Options.{isSome}
-use Rattle.std.specs.Orderings.{When}
-use Rattle.std.specs.Parts.{split-whitespace-rest}
-use Rattle.std.specs.Pieces.{words-steps}
-use Rattle.std.specs.Reads.{Numeral, value}
 use Rattle.std.specs.Results.{Cases, ErrBy}
-use Rattle.std.specs.Runs.{Run, Gave, WholeRun}
-use Rattle.std.specs.Vec.{made}
 use Rattle.std.specs.Words.{dark, Without, Opens, Shuts}
-use borrow.Author.Tests.{true-eqb}
 use Rattle.std.proofs.shelf.Lists.{length-map}
-use Rattle.std.proofs.shelf.Tests.{cond-false, cases-bool}
 use Rattle.service.specs.declared.Record.{Record}
+use Rattle.words.specs.Spoken.{Writes, Unreadable, texts}
+use Rattle.words.proofs.Spoken.{no-word, text-at, said-at}
 use Rattle.listing.specs.declared.fault.Field.{Field}
 use Rattle.listing.specs.declared.fault.Wrong.{Wrong}
 use Rattle.listing.specs.declared.fault.Wrong.the-variants.{Encoding, BitTime, End, Count, Number, Memory}
-use Rattle.listing.specs.Said.{Writes, Trims, First, Words, RowWords, PassedOver, Worded}
-use Rattle.listing.specs.Texts.{texts, Unreadable, place, NumberWrong, RowWrong}
+use Rattle.listing.specs.Said.{Trims, RowWords}
+use Rattle.listing.specs.Texts.{place, NumberWrong, RowWrong}
 
 -- what `trim` says
 pub trims : (line word : List ℕ) → (m : ℕ) × (n : ℕ) × (word ≡ take n (drop m line)) × Without dark (take m line) × Without dark (drop n (drop m line)) × ((rest : List ℕ) × Opens dark word rest) × Shuts dark word → Trims line word
@@ -48,51 +37,6 @@ trims line word h =
       last = h .6;
     }
 
--- what `number` refuses, or what is too large
-pub no-number : (word : List ℕ) (bound : ℕ) → bound ≤ 2 ^ 32 → (Numeral 10 word × (value 10 word < 2 ^ 32) → ⊥) → Unreadable bound word
-no-number word bound small h n lt w = h (w .numeral, omega (arith, w .is))
-
-pub too-large : (word : List ℕ) (bound n : ℕ) → n ≡ value 10 word → bound ≤ n → Unreadable bound word
-too-large word bound n e large m lt w = absurd (omega (arith, w .is))
-
-first-of : (s t : SplitWhitespace) (x : RefT (List ℕ)) → words-steps s (Some x) t → First (split-whitespace-rest s) (x .now) (split-whitespace-rest t)
-first-of s t x h = record { gap = h .0; cut = h .1; some = h .2; blank = h .3; solid = h .4; ends = h .5 }
-
--- what `next` says of a line that is no comment
-pub blank-or-word : (line : List ℕ) (b : Bool) (o : Option (RefT (List ℕ))) (s t : SplitWhitespace) → isSome o ≡ not b → words-steps s o t → split-whitespace-rest s ≡ line → (getD line 0 0 ≡ 35 → ⊥) → When b (PassedOver line) (Worded line)
-blank-or-word line true None s t e h is plain = inr (subst (Without dark) is (h .1))
-blank-or-word line true (Some x) s t e h is plain = absurd (grind arith)
-blank-or-word line false None s t e h is plain = absurd (grind arith)
-blank-or-word line false (Some x) s t e h is plain = record { uncommented = plain; word = x .now; rest = split-whitespace-rest t; first = subst (λ l. First l (x .now) (split-whitespace-rest t)) is (first-of s t x h) }
-
-words-yielded : (xs : List (RefT (List ℕ))) (s t u : SplitWhitespace) → yields words-steps s xs t → words-steps t None u → Words (split-whitespace-rest s) (texts xs)
-words-yielded [] s t u same end = subst (λ r. Without dark (split-whitespace-rest r)) (sym same) (end .1)
-words-yielded (x ∷ xs) s t u more end = (split-whitespace-rest (more .0), first-of s (more .0) x (more .1), words-yielded xs (more .0) t u (more .2) end)
-
--- what a run of `split_whitespace` gave are the words
-pub words-of-run : (p : Run words-steps) → p .whole ≡ true → Words (split-whitespace-rest (p .from)) (texts (p .items))
-unfolding Gave
-words-of-run p whole = let took = p .gave .0 in let end = took .2 whole in words-yielded (p .items) (p .from) (took .0) (end .0) (took .1) (end .1)
-
-pub words-collected : {X E : Type 0} (items : X → List (RefT (List ℕ))) (size : X → ℕ) (line : List ℕ) (s : SplitWhitespace) (r : Result X E) → split-whitespace-rest s ≡ line → Cases r (λ v. Unit {0} → WholeRun words-steps s (λ p. (items v ≡ p .items) × (size v ≡ length (p .items)))) (λ _. Unit {0}) → made r (λ v. Words line (texts (items v)))
-words-collected items size line s (Err e) is h = tt
-words-collected items size line s (Ok v) is h =
-    let run = h tt in
-    let all = words-of-run (run .0) (run .2) in
-    subst (λ l. Words l (texts (items v))) (ap split-whitespace-rest (run .1) ∙ is) (subst (λ xs. Words (split-whitespace-rest (run .0 .from)) (texts xs)) (sym (run .3 .0)) all)
-
--- what stands beyond the words
-abbrev no-word : RefT (List ℕ)
-no-word = record { ptr = (0, 0); name = 0; now = [] }
-
-text-at : (ws : List (RefT (List ℕ))) (k : ℕ) → getD ws k no-word .now ≡ getD (texts ws) k []
-text-at [] k = refl
-text-at (w ∷ ws) zero = refl
-text-at (w ∷ ws) (suc k) = text-at ws k
-
-pub said-at : (ws : List (RefT (List ℕ))) (k n : ℕ) → Writes (getD ws k no-word .now) n → Writes (getD (texts ws) k []) n
-said-at ws k n h = subst (λ w. Writes w n) (text-at ws k) h
-
 module _ (field : Field) (ws : List (RefT (List ℕ))) where
   row-wrong : (e : Wrong) → length ws ≡ 5 → NumberWrong field (getD ws (place field) no-word .now) e → RowWrong (texts ws) e
   row-wrong (Number at found) five h =
@@ -105,16 +49,14 @@ module _ (field : Field) (ws : List (RefT (List ℕ))) where
   row-wrong Memory five h = h
 
   -- a word that is no number, handed on
-  pub wrong-word : (r : Result Record Wrong) (e : Wrong) → ErrBy r (λ y. y ≡ e) → length ws ≡ 5 → NumberWrong field (getD ws (place field) no-word .now) e → Cases r (RowWords (texts ws)) (RowWrong (texts ws))
-  wrong-word (Ok x) e exit five h = absurd exit
-  wrong-word (Err y) e exit five h = subst (RowWrong (texts ws)) (sym exit) (row-wrong e five h)
+  pub wrong-word : (r : Result Record Wrong) (e : Wrong) → ErrBy r (λ y. y ≡ e) → length ws ≡ 5 → (at : ℕ) → place field ≡ at → NumberWrong field (getD ws at no-word .now) e → Cases r (RowWords (texts ws)) (RowWrong (texts ws))
+  wrong-word (Ok x) e exit five at is h = absurd exit
+  wrong-word (Err y) e exit five at is h =
+      subst (RowWrong (texts ws)) (sym exit) (row-wrong e five (subst (λ k. NumberWrong field (getD ws k no-word .now) e) (sym is) h))
 
--- whether a byte counts as a newline
-abbrev counts : ℕ → ℕ
-counts b = cond (eqb b 10) 1 0
-
-pub newline-one : (b : ℕ) → b ≡ 10 → counts b ≡ 1
-newline-one b h = ap counts h
-
-pub newline-none : (b : ℕ) → (b ≡ 10 → ⊥) → counts b ≡ 0
-newline-none b h = ⊎-elim (λ (e : eqb b 10 ≡ true). absurd (h (true-eqb b 10 (sym e)))) (λ (e : eqb b 10 ≡ false). cond-false (eqb b 10) 1 0 e) (cases-bool (eqb b 10))
+-- the first k numbers, and one more
+pub one-more : (ws : List (RefT (List ℕ))) (k n : ℕ) (ns : List ℕ) → k < length ns → ((j : ℕ) → j < k → Writes (getD (texts ws) j []) (getD ns j 0)) → Writes (getD ws k no-word .now) n → (j : ℕ) → j < k + 1 → Writes (getD (texts ws) j []) (getD (set ns k n) j 0)
+one-more ws k n ns lt old new =
+    below-more _ _
+    (λ j h. let ne : j ≢ k = omega arith in rw getD-set-other (old j h))
+    (rw getD-set-same (said-at ws k n new))

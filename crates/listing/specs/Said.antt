@@ -2,19 +2,14 @@
 use mathlib.Core.Path.{_≡_}
 use mathlib.Core.Logic.{_⊎_}
 use mathlib.Core.List.{List, [], _∷_, _++_}
-use Prim.Native.Nat.{ℕ, _+_, _^_, _<_}
+use Prim.Native.Nat.{ℕ}
 use lib.ListN.{length, getD}
 use Rattle.std.specs.declared.option.Option.{Option}
 use Rattle.std.specs.declared.option.Option.the-variants.{Some, None}
 use Rattle.std.specs.Lines as lines
-use Rattle.std.specs.Reads.{Numeral, value}
-use Rattle.std.specs.Words.{white, dark, Without, Opens, Shuts}
+use Rattle.std.specs.Words.{dark, Without, Opens, Shuts}
 use Rattle.service.specs.declared.Record.{Record}
-
--- the word is one decimal digit or more and nothing else, and n is their value
-pub record Writes (word : List ℕ) (n : ℕ) : Type 0 where
-  pub numeral : Numeral 10 word
-  pub is : n ≡ value 10 word
+use Rattle.words.specs.Spoken.{Writes, Words, PassedOver}
 
 -- the word is what is left of the line without the white space at its ends
 pub record Trims (line word : List ℕ) : Type 0 where
@@ -26,20 +21,6 @@ pub record Trims (line word : List ℕ) : Type 0 where
   pub first : (rest : List ℕ) × Opens dark word rest
   pub last : Shuts dark word
 
--- the line is white space, the word and the rest, which is empty or begins with white space
-pub record First (line word rest : List ℕ) : Type 0 where
-  pub gap : List ℕ
-  pub cut : line ≡ gap ++ (word ++ rest)
-  pub some : 0 < length word
-  pub blank : Without dark gap
-  pub solid : Without white word
-  pub ends : (more : List ℕ) × Opens white rest more
-
--- the words of the line
-abbrev pub Words : List ℕ → List (List ℕ) → Type 0
-Words line [] = Without dark line
-Words line (w ∷ ws) = (rest : List ℕ) × First line w rest × Words rest ws
-
 -- five words write the numbers of the record
 pub record RowWords (ws : List (List ℕ)) (r : Record) : Type 0 where
   pub five : length ws ≡ 5
@@ -48,17 +29,6 @@ pub record RowWords (ws : List (List ℕ)) (r : Record) : Type 0 where
   pub jitter : Writes (getD ws 2 []) (r .jitter)
   pub least : Writes (getD ws 3 []) (r .least)
   pub greatest : Writes (getD ws 4 []) (r .greatest)
-
--- the line is a comment, or blank
-abbrev pub PassedOver : List ℕ → Type 0
-PassedOver line = (getD line 0 0 ≡ 35) ⊎ Without dark line
-
--- the line has a word to be read
-pub record Worded (line : List ℕ) : Type 0 where
-  pub uncommented : getD line 0 0 ≡ 35 → ⊥
-  pub word : List ℕ
-  pub rest : List ℕ
-  pub first : First line word rest
 
 -- the line says the bit time
 abbrev pub BitLine : List ℕ → ℕ → Type 0

@@ -1,24 +1,13 @@
 -- What a line that is read, or refused, has in it.
 use mathlib.Core.Path.{_≡_}
-use mathlib.Core.Bool.{cond}
-use mathlib.Core.List.{List, [], _∷_, map}
-use denote.Ref.{RefT}
-use Prim.Native.Nat.{ℕ, _+_, _^_, _<_}
-use lib.Dec.{eqb}
+use mathlib.Core.List.{List, []}
+use Prim.Native.Nat.{ℕ, _^_}
 use lib.ListN.{length, getD}
+use Rattle.words.specs.Spoken.{Unreadable, Words}
 use Rattle.listing.specs.declared.fault.Field.{Field}
 use Rattle.listing.specs.declared.fault.Field.the-variants.{Priority, Period, Jitter, Least, Greatest}
 use Rattle.listing.specs.declared.fault.Wrong.{Wrong}
 use Rattle.listing.specs.declared.fault.Wrong.the-variants.{Encoding, BitTime, End, Count, Number, Memory}
-use Rattle.listing.specs.Said.{Writes, Words}
-
--- no number below the bound is written by the word
-abbrev pub Unreadable : ℕ → List ℕ → Type 0
-Unreadable bound word = (n : ℕ) → n < bound → Writes word n → ⊥
-
--- the bytes of each of the words
-abbrev pub texts : List (RefT (List ℕ)) → List (List ℕ)
-texts words = map (λ w. w .now) words
 
 -- where a field stands in a row
 abbrev pub place : Field → ℕ
@@ -54,8 +43,3 @@ LineWrong line End = ⊥
 LineWrong line (Count n) = (ws : List (List ℕ)) × Words line ws × RowWrong ws (Count n)
 LineWrong line (Number field found) = (ws : List (List ℕ)) × Words line ws × RowWrong ws (Number field found)
 LineWrong line Memory = Unit {0}
-
--- how many newlines stand among the bytes
-abbrev pub newlines : List ℕ → ℕ
-newlines [] = 0
-newlines (b ∷ bs) = cond (eqb b 10) 1 0 + newlines bs

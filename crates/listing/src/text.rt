@@ -1,23 +1,24 @@
 //! Reading a text: a line with the bit time, then a line for each row.
-ghost use mathlib.Core.Path.{_≡_};
 ghost use mathlib.Core.List.{List};
-ghost use Prim.Native.Nat.{ℕ, _+_, _^_, _<_};
-ghost use Rattle.std.specs.Numbers.{Checked};
+ghost use mathlib.Core.Path.{_≡_};
+ghost use Prim.Native.Nat.{ℕ, _<_};
 ghost use Rattle.std.specs.Of.Vec.{vec-items};
-ghost use Rattle.std.specs.Orderings.{When};
-ghost use Rattle.std.specs.Reads.{Numeral, value};
 ghost use Rattle.std.specs.Results.{Cases};
 ghost use Rattle.std.specs.Vec.{made};
-ghost use Rattle.listing.specs.Said.{Writes, Trims, Words, RowWords, RowLine, PassedOver, Worded, Takes, Says};
-ghost use Rattle.listing.specs.Texts.{texts, Unreadable, NumberWrong, RowWrong, LineWrong, newlines};
+ghost use Rattle.words.specs.Spoken.{Writes, Unreadable, texts};
+ghost use Rattle.listing.specs.Said.{Trims, RowWords, RowLine, Takes, Says};
+ghost use Rattle.listing.specs.Texts.{place, NumberWrong, RowWrong, LineWrong};
 use crate::fault::Fault;
 use crate::fault::Field;
 use crate::fault::Wrong;
 use crate::fault::WrongFromAlloc;
 use crate::fault::WrongFromRefused;
 use service::Record;
-use std::alloc::AllocError;
 use std::alloc::Global;
+use words::is_passed_over;
+use words::line_after;
+use words::number_up_to;
+use words::words_of;
 
 /// What a text says of one resource.
 #[derive(Drop)]
@@ -26,48 +27,36 @@ pub struct Resource {
     pub records: Vec<Record>,
 }
 
-/// The number that a word writes in decimal, if it is one below 2 ^ 32.
-fn number(word: &str) -> Option<u32>
-    ensures { λ r. ⌜ Checked r (Numeral 10 (now (word .entry)) × (value 10 (now (word .entry)) < 2 ^ 32)) (value 10 (now (word .entry))) ⌝ }
-{
-    match word.as_bytes() {
-        [b'+', ..] => None,
-        _ => word.parse::<u32>().ok(),
-    }
-}
-
-/// Whether a line is a comment, or blank.
-fn is_passed_over(line: &str) -> bool
-    ensures { λ r. ⌜ When r (PassedOver (now (line .entry))) (Worded (now (line .entry))) ⌝ }
-{
-    line.starts_with('#') || line.split_whitespace().next().is_none()
-}
-
 /// The bit time that a line says.
 fn bit_time_of<'a>(line: &'a str) -> Result<u8, Wrong<'a>>
     ensures { λ r. ⌜ ((word : List ℕ) × Trims (now (line .entry)) word × Cases r (λ n. Writes word n) (λ _. Unreadable 256 word)) ⌝ }
 {
     let found = line.trim();
-    let wrong = Wrong::BitTime(found);
-    let n = number(found).ok_or(wrong)?;
-    if n > 255 {
-        return Err(wrong);
+    match number_up_to(found, 255) {
+        Some(n) => Ok(n as u8),
+        None => Err(Wrong::BitTime(found)),
     }
-    Ok(n as u8)
 }
 
 /// The number that a word writes for a field.
 fn number_of<'a>(field: Field, word: &'a str) -> Result<u32, Wrong<'a>>
     ensures { λ r. ⌜ Cases r (λ n. Writes (now (word .entry)) n) (λ e. NumberWrong field (now (word .entry)) e) ⌝ }
 {
-    number(word).ok_or(Wrong::Number(field, word))
+    number_up_to(word, u32::MAX).ok_or(Wrong::Number(field, word))
 }
 
-/// The words of a line.
-fn words_of<'a>(heap: Global, line: &'a str) -> Result<Vec<&'a str>, AllocError>
-    ensures { λ r. ⌜ made r (λ v. Words (now (line .entry)) (texts (vec-items v))) ⌝ }
+/// The field whose number stands at a place.
+fn field_at(at: usize) -> Field
+    requires { ⌜ at < 5 ⌝ }
+    ensures { λ r. ⌜ place r ≡ at ⌝ }
 {
-    line.split_whitespace().collect(heap)
+    match at {
+        0 => Field::Priority,
+        1 => Field::Period,
+        2 => Field::Jitter,
+        3 => Field::Least,
+        _ => Field::Greatest,
+    }
 }
 
 /// The row that five words say.
@@ -77,12 +66,17 @@ fn record_of<'a>(words: &[&'a str]) -> Result<Record, Wrong<'a>>
     if words.len() != 5 {
         return Err(Wrong::Count(words.len()));
     }
+    let mut numbers = [0; 5];
+    for at in 0..5 {
+        numbers[at] = number_of(field_at(at), words[at])?;
+    }
+    let [priority, period, jitter, least, greatest] = numbers;
     Ok(Record {
-        priority: number_of(Field::Priority, words[0])?,
-        period: number_of(Field::Period, words[1])?,
-        jitter: number_of(Field::Jitter, words[2])?,
-        least: number_of(Field::Least, words[3])?,
-        greatest: number_of(Field::Greatest, words[4])?,
+        priority,
+        period,
+        jitter,
+        least,
+        greatest,
     })
 }
 
@@ -140,19 +134,6 @@ fn resource_of<'a>(heap: Global, text: &'a str) -> Result<Resource, Fault<'a>>
             wrong: Wrong::End,
         }),
     }
-}
-
-/// The line, counted from 1, that the bytes before it lead to.
-fn line_after(before: &[u8]) -> usize
-    ensures { λ r. ⌜ r ≡ 1 + newlines (now (before .entry)) ⌝ }
-{
-    let mut line = 1;
-    for byte in before {
-        if *byte == b'\n' {
-            line += 1;
-        }
-    }
-    line
 }
 
 /// What bytes say, which have to be text.

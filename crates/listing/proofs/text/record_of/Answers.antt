@@ -1,9 +1,8 @@
 use mathlib.Core.Path.{_≡_, sym, _∙_}
 use native.Mathlib.Omega.{arith}
-use lib.ListN.{length}
+use lib.ListN.{length, length-set}
 use Rattle.std.proofs.shelf.Lists.{length-map}
-use Rattle.listing.specs.declared.fault.Field.the-variants.{Priority, Period, Jitter, Least, Greatest}
-use Rattle.listing.proofs.Spoken.{said-at, wrong-word}
+use Rattle.listing.proofs.Spoken.{wrong-word, one-more}
 use Rattle.listing.proofs.text.record_of.Needs as need
 
 pub returns-then-words-ne5 : need.returns-then-words-ne5
@@ -11,30 +10,26 @@ returns-then-words-ne5 c =
     let same = length-map (c .args .words .now) (λ w. w .now) in
     (sym same, λ five. omega (arith, same, five))
 
-pub returns-in-Break-number-of : need.returns-in-Break-number-of
-returns-in-Break-number-of c = wrong-word Priority (c .args .words .now) _ _ (c .from-residual .ensures .1) (omega arith) (c .in-Break-number-of .ensures tt)
+pub loop-at-again : need.loop-at-again
+loop-at-again c = (
+  simp length-set (c .loop-at .inv .0),
+  one-more (c .args .words .now) (c .loop-at .at) (c .in-Continue-numbers .field-0) (c .loop-at .numbers) (omega (arith, c .loop-at .inv .0)) (c .loop-at .inv .1) (c .in-Continue-numbers .ensures tt),
+)
 
-pub returns-in-Break-number-of-2 : need.returns-in-Break-number-of-2
-returns-in-Break-number-of-2 c = wrong-word Period (c .args .words .now) _ _ (c .from-residual-in-Break-number-of-2 .ensures .1) (omega arith) (c .in-Break-number-of-2 .ensures tt)
-
-pub returns-in-Break-number-of-3 : need.returns-in-Break-number-of-3
-returns-in-Break-number-of-3 c = wrong-word Jitter (c .args .words .now) _ _ (c .from-residual-in-Break-number-of-3 .ensures .1) (omega arith) (c .in-Break-number-of-3 .ensures tt)
-
-pub returns-in-Break-number-of-4 : need.returns-in-Break-number-of-4
-returns-in-Break-number-of-4 c = wrong-word Least (c .args .words .now) _ _ (c .from-residual-in-Break-number-of-4 .ensures .1) (omega arith) (c .in-Break-number-of-4 .ensures tt)
-
-pub returns-in-Break-number-of-5 : need.returns-in-Break-number-of-5
-returns-in-Break-number-of-5 c = wrong-word Greatest (c .args .words .now) _ _ (c .from-residual-in-Break-number-of-5 .ensures .1) (omega arith) (c .in-Break-number-of-5 .ensures tt)
+pub returns-in-Break-numbers : need.returns-in-Break-numbers
+returns-in-Break-numbers c =
+    let five : length (c .args .words .now) ≡ 5 = omega arith in
+    wrong-word (c .field-at .result) (c .args .words .now) (c .from-residual .result) _ (c .from-residual .ensures .1) five (c .loop-at .at) (c .field-at .ensures) (c .in-Break-numbers .ensures tt)
 
 pub returns : need.returns
 returns c =
     let five : length (c .args .words .now) ≡ 5 = omega arith in
-    let words = c .args .words .now in
+    let said = c .loop-at .inv .1 in
     record {
-      five = length-map words (λ w. w .now) ∙ five;
-      priority = said-at words 0 _ (c .in-Continue-number-of .ensures tt);
-      period = said-at words 1 _ (c .in-Continue-number-of-2 .ensures tt);
-      jitter = said-at words 2 _ (c .in-Continue-number-of-3 .ensures tt);
-      least = said-at words 3 _ (c .in-Continue-number-of-4 .ensures tt);
-      greatest = said-at words 4 _ (c .in-Continue-number-of-5 .ensures tt);
+      five = length-map (c .args .words .now) (λ w. w .now) ∙ five;
+      priority = said 0 (omega arith);
+      period = said 1 (omega arith);
+      jitter = said 2 (omega arith);
+      least = said 3 (omega arith);
+      greatest = said 4 (omega arith);
     }

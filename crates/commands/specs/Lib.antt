@@ -1,0 +1,3 @@
+-- What the contracts of the commands cite.
+pub mod Limits
+pub mod Listed

@@ -1,6 +1,0 @@
-use Rattle.std.specs.Of.Vec.{vec-items, vec-len}
-use Rattle.listing.proofs.Spoken.{words-collected}
-use Rattle.listing.proofs.text.words_of.Needs as need
-
-pub returns : need.returns
-returns c = words-collected vec-items vec-len _ _ _ (c .split-whitespace .ensures .rest) (c .collect .ensures .runs)

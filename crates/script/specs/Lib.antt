@@ -1,0 +1,3 @@
+-- What the contracts of the reading cite.
+pub mod Commands
+pub mod Fields

@@ -1,0 +1,4 @@
+//! A desk script: one line read into a command.
+pub mod read;
+#[cfg(test)]
+mod tests;
