@@ -22,8 +22,8 @@ use settle::WindowRow;
 use std::alloc::AllocError;
 use std::alloc::Global;
 use std::alloc::Refused;
-use std::fmt::Display;
 use std::fmt;
+use std::fmt::Display;
 use std::io::Read;
 use visits::replay::list::replay;
 use visits::visit::Answer;
@@ -333,7 +333,10 @@ fn main(rt: LibcRuntime) -> Result<(), Failed> {
     let finished = desk.close(heap);
     let said = desk.said;
     if let Err(error) = print!(rt, "{said}") {
-        return fail(&rt, format_args!("standard output cannot be written: {error}"));
+        return fail(
+            &rt,
+            format_args!("standard output cannot be written: {error}"),
+        );
     }
     if let Err(stop) = stopped {
         return fail(&rt, stop);
