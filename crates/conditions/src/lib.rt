@@ -1,3 +1,4 @@
+#![tactic(auto)]
 // The conditions on which a call is refused, looked at one after the other.
 ghost use Rattle.std.specs.Prelude.{◌≡◌};
 ghost use Rattle.items.specs.Refusals.{as_result};

@@ -1,5 +1,6 @@
 //! The desk: a script of visits to plans on standard input, an answer for each line on standard output.
 //! Plans are opened one after the other; each is replayed with its visits, by one call.
+#![tactic(auto)]
 use commands::command::Command;
 use commands::fault::Wrong;
 use commands::listed::Listed;

@@ -1,3 +1,4 @@
+#![tactic(auto)]
 // What a plan is made of: items with their work, the refusals of a plan's calls, the entries of a journal.
 // The specs say what the calls of a plan mean; `theorems` proves what holds of them over every list of visits.
 ghost use Rattle.std.specs.Prelude.{◌≡◌};

@@ -1,3 +1,4 @@
+#![tactic(auto)]
 // The plan: up to 256 items over 1 to 16 resources, with a journal of its last 32 edits.
 // No plan can exist whose items are not valid, or whose journal leads back to items that are not.
 ghost use Rattle.std.specs.Prelude.{◌≡◌, ◌≤◌, length};

@@ -1,4 +1,5 @@
 //! Prints the least and the worst response of each row of one resource, which standard input describes.
+#![tactic(auto)]
 mod answers;
 
 use std::fmt::Display;

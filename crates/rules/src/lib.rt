@@ -1,4 +1,5 @@
 //! The service rules: the climb to a smallest solution, a processor, a bus, and the layers over rules.
+#![tactic(auto)]
 pub mod bus;
 pub mod climb;
 pub mod demand;

@@ -1,11 +1,11 @@
 -- Numbers that obey the laws on rows obey them all once bad input is answered as every rule answers it.
-use Rattle.std.proofs.Common.{◌≡◌, ℕ, ◌+◌, ◌<◌, ◌≤◌, Bool, true, false, cond, ◌&&◌, ltb, leb, ◌⊎◌, List, length, Some, None, Option, sym, refl, ◌∙◌, subst, inl, inr, arith}
-use Rattle.std.proofs.lemmas.Bool.{cases_Bool, cases_lt, cond-true, cond-false, lt-ltb, ltb-true, leb-true, both_ways}
+use Rattle.std.proofs.Common.{◌≡◌, ℕ, ◌<◌, ◌≤◌, Bool, true, false, cond, ltb, leb, ◌⊎◌, List, length, Some, None, Option, sym, refl, ◌∙◌, inl, inr, arith}
+use Rattle.std.proofs.lemmas.Bool.{cases_Bool, cases_lt, lt-ltb, ltb-true, leb-true, both_ways}
 use Rattle.service.specs.declared.Record.{Record}
 use Rattle.service.specs.Traces.{Trace}
-use Rattle.service.specs.Rows.{row, IsRow, Fit, Rows}
+use Rattle.service.specs.Rows.{row, IsRow, Fit}
 use Rattle.service.specs.Laws.{Bounded, Patient, Rising, Ranged, Unfit, Beyond, Crowded, Lawful}
-use Rattle.service.specs.Answers.{is_row, all_rows, admitted, refused_least, answered_least, answered_worst}
+use Rattle.service.specs.Answers.{is_row, all_rows, admitted, answered_least, answered_worst}
 use Rattle.service.proofs.Checks.{row_since, row_test, no_row_test, rows_since, rows_test, no_rows_test, unfit_at, Admits, admits, admit}
 
 -- places that are not admitted

@@ -1,5 +1,5 @@
 -- The tests of records and what they say.
-use Rattle.std.proofs.Common.{◌≡◌, ℕ, zero, suc, ◌+◌, ◌<◌, ◌≤◌, Bool, true, false, cond, ◌&&◌, ltb, leb, ◌⊎◌, List, [], ◌∷◌, length, is_some, Some, None, Option, refl, subst, inl, inr, le_of_suc-le-suc, not-suc-le-zero, arith, MatchOption, MatchResult}
+use Rattle.std.proofs.Common.{◌≡◌, ℕ, zero, suc, ◌<◌, ◌≤◌, true, false, ◌&&◌, ltb, leb, ◌⊎◌, List, [], ◌∷◌, length, is_some, Some, None, Option, refl, subst, inl, inr, le_of_suc-le-suc, not-suc-le-zero, arith, MatchOption, MatchResult}
 use Rattle.std.proofs.lemmas.Bool.{and_parts, and_from, leb-true, le-leb, ltb-true, lt-ltb, cases_Bool, both_ways}
 use Rattle.std.specs.Option.{ok_or}
 use Rattle.service.specs.declared.Record.{Record}

@@ -1,5 +1,5 @@
 -- What a rule is told of one resource: a list of records, each of which may be a row.
-use Rattle.std.specs.Prelude.{◌≡◌, ℕ, ◌+◌, ◌<◌, ◌≤◌, List, [], ◌∷◌, length, slice_index_or}
+use Rattle.std.specs.Prelude.{◌≡◌, ℕ, ◌<◌, ◌≤◌, List, length, slice_index_or}
 use Rattle.service.specs.declared.Record.{Record}
 use Rattle.service.specs.declared.row.Row.{Row}
 

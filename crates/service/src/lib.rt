@@ -1,4 +1,6 @@
 //! What a service rule is: what it is told of one resource, what it answers, and what it must show.
+#![tactic(auto)]
+
 ghost use Rattle.std.specs.Prelude.{◌≡◌, ℕ, List, Option};
 ghost use Rattle.service.specs.Traces.{Trace};
 ghost use Rattle.service.specs.Laws.{Bounded, Patient, Rising, Ranged, Unfit, Beyond, Crowded};

@@ -1,4 +1,5 @@
 //! Reads a plan file on standard input, and prints its windows or why it is sent back.
+#![tactic(auto)]
 use std::fmt::Display;
 use std::io::Read;
 use texts::{SentBack, Windows};
