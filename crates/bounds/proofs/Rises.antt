@@ -1,5 +1,5 @@
 -- More jitter never lowers a worst response, and never turns none into a number.
-use Rattle.std.proofs.Common.{◌≡◌, ℕ, ◌+◌, ◌<◌, ◌≤◌, false, eqb, List, length, Some, refl, arith}
+use Rattle.std.proofs.Common.{◌≡◌, ℕ, ◌+◌, ◌<◌, ◌≤◌, false, eqb, List, length, Some, arith}
 use Rattle.std.proofs.lemmas.Bool.{ne_eqb}
 use Rattle.service.specs.declared.Record.{Record}
 use Rattle.service.specs.Rows.{row, Rows, Looser}

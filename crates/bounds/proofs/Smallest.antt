@@ -1,10 +1,10 @@
 -- The search for a solution finds the smallest one, so the worst responses are the smallest that solve their equations and fit.
-use Rattle.std.proofs.Common.{◌≡◌, ℕ, ◌+◌, ◌<◌, ◌≤◌, Bool, true, false, cond, eqb, leb, ◌⊎◌, List, Some, None, Option, sym, refl, ap, ◌∙◌, subst, inl, inr, add-zero, arith}
-use Rattle.std.proofs.lemmas.Bool.{cases_lt, eqb-true, cond-true, cond-false}
+use Rattle.std.proofs.Common.{◌≡◌, ℕ, ◌+◌, ◌<◌, ◌≤◌, Bool, true, false, cond, eqb, ◌⊎◌, List, Some, None, Option, refl, ap, ◌∙◌, inl, inr, add-zero, arith}
+use Rattle.std.proofs.lemmas.Bool.{cases_lt, eqb-true}
 use Rattle.service.specs.declared.Record.{Record}
 use Rattle.service.specs.Rows.{row}
 use Rattle.bounds.specs.Numbers.{solution, Smallest, NoneUpTo}
-use Rattle.bounds.specs.Equations.{fitting, plus, processor_step, bus_step, processor_worst, bus_worst}
+use Rattle.bounds.specs.Equations.{fitting, plus, processor_step, bus_step}
 use Rattle.bounds.specs.Stands.{WorstsAreSmallest, ProcessorWorstIs, BusWorstIs}
 use Rattle.bounds.proofs.Solutions.{solution_is, solution_finds}
 use Rattle.bounds.proofs.Ranges.{fitting_is, fitting_fits, BusSolves, bus_solves}

@@ -1,9 +1,9 @@
 -- The sums and the longest frame of the response equations: how they rise, and what they cover.
-use Rattle.std.proofs.Common.{◌≡◌, ℕ, zero, suc, ◌+◌, ◌*◌, ◌<◌, ◌≤◌, max, Bool, true, false, cond, ◌||◌, ltb, leb, List, [], ◌∷◌, length, take, refl, subst, mul-le-mul, add-one, arith}
+use Rattle.std.proofs.Common.{◌≡◌, ℕ, zero, suc, ◌+◌, ◌<◌, ◌≤◌, max, Bool, true, false, cond, ◌||◌, ltb, leb, List, [], ◌∷◌, length, take, refl, subst, mul-le-mul, add-one, arith}
 use Rattle.std.proofs.lemmas.Bool.{both_ways, lt-ltb, ltb-true, le-leb, or_cases, or_right}
 use Rattle.service.specs.declared.Record.{Record}
 use Rattle.service.specs.declared.row.Row.{Row}
-use Rattle.service.specs.Rows.{row, IsRow, Fit, record_of}
+use Rattle.service.specs.Rows.{row, Fit, record_of}
 use Rattle.bounds.specs.Equations.{asks, summed, above, longest}
 use Rattle.bounds.proofs.Solutions.{ceiling_rises}
 use Rattle.bounds.proofs.Tallies.{tally, tally_none, tally_joins}

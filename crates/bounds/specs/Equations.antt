@@ -1,5 +1,5 @@
 -- The response equations of a processor and of a bus.
-use Rattle.std.specs.Prelude.{ℕ, ◌+◌, ◌-◌, ◌*◌, max, Bool, true, false, cond, List, [], ◌∷◌, length, Some, None, Option, ◌==◌, nat_le, nat_lt}
+use Rattle.std.specs.Prelude.{ℕ, ◌+◌, ◌*◌, max, cond, List, [], ◌∷◌, Some, None, Option, ◌==◌, nat_le, nat_lt}
 use Rattle.service.specs.declared.Record.{Record}
 use Rattle.service.specs.Rows.{row}
 use Rattle.bounds.specs.Numbers.{ceiling, solution}

@@ -1,5 +1,5 @@
 -- Ceilings and smallest solutions.
-use Rattle.std.specs.Prelude.{◌≡◌, ℕ, zero, suc, ◌+◌, ◌-◌, ◌/◌, ◌≤◌, Bool, true, false, cond, Some, None, Option, ◌==◌, ◌≢◌}
+use Rattle.std.specs.Prelude.{◌≡◌, ℕ, zero, suc, ◌+◌, ◌-◌, ◌/◌, ◌≤◌, cond, Some, None, Option, ◌==◌, ◌≢◌}
 
 -- n / d, rounded up
 abbrev pub ceiling : ℕ → ℕ → ℕ

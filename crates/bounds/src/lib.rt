@@ -1,5 +1,6 @@
 //! The response equations of a processor and a bus, the runs that they allow, and theorems on both.
 #![tactic(auto)]
+
 ghost use Rattle.bounds.specs.Known.{KnownResponses};
 ghost use Rattle.bounds.specs.Stands.{WorstsAreSmallest};
 

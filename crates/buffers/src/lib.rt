@@ -1,5 +1,6 @@
 //! A caller's buffer of bytes: what is written goes into its front, and the rest stays as it was.
 #![tactic(auto)]
+
 ghost use Rattle.std.specs.Prelude.{◌≡◌, ◌+◌, ◌≤◌, length};
 ghost use Rattle.buffers.specs.Faults.{buffer_number};
 ghost use Rattle.buffers.specs.Fronts.{Pasted};

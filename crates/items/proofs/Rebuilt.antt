@@ -1,12 +1,12 @@
 -- A plan can be placed again, item by item in its order: each item is accepted among those before it, and goes behind them.
-use Rattle.std.proofs.Common.{◌≡◌, ℕ, suc, ◌<◌, ◌≤◌, min, Bool, true, false, ◌&&◌, ◌||◌, eqb, List, [], ◌∷◌, ◌++◌, length, take, None, sym, refl, ap, ◌∙◌, inl, inr, ⊎_elim, arith, length-take, get_or-take}
+use Rattle.std.proofs.Common.{◌≡◌, ℕ, suc, ◌<◌, ◌≤◌, min, true, false, eqb, List, [], ◌∷◌, ◌++◌, length, take, None, sym, refl, ap, ◌∙◌, inl, inr, ⊎_elim, arith, length-take, get_or-take}
 use Rattle.std.proofs.lemmas.Bool.{cases_Bool, or_cases, and_parts, eqb-true, false≢true, le-ltb, cond-false}
 use Rattle.items.specs.declared.Item.{Item}
 use Rattle.items.specs.Items.{no_item, item_at, with_item}
 use Rattle.items.specs.Conditions.{stands, priority_used, place_refusal}
 use Rattle.items.specs.Valid.{Valid}
-use Rattle.items.proofs.Members.{In, Seat, seat_of, in_at, stander, members}
-use Rattle.items.proofs.Accepted.{Placeable, accepts}
+use Rattle.items.proofs.Members.{In, seat_of, in_at, stander, members}
+use Rattle.items.proofs.Accepted.{accepts}
 
 -- an item of the highest number goes behind all others
 pub with_last : (x : Item) (xs : List Item) → ((k : ℕ) → k < length xs → (item_at xs k).number < x.number) → with_item x xs ≡ xs ++ x ∷ []

@@ -1,5 +1,5 @@
 -- The ledger: what a plan should hold after a list of visits, told only the arguments of the visits.
-use Rattle.std.specs.Prelude.{ℕ, zero, suc, ◌+◌, ◌-◌, min, List, [], ◌∷◌, Some, None, Option}
+use Rattle.std.specs.Prelude.{ℕ, zero, suc, ◌+◌, min, List, [], ◌∷◌, Some, None, Option}
 use Rattle.items.specs.declared.Item.{Item}
 use Rattle.items.specs.declared.Work.{Work}
 use Rattle.items.specs.declared.Refusal.{Refusal}

@@ -1,9 +1,9 @@
 -- What is read of a word that should write a number.
-use Rattle.std.proofs.Common.{◌≡◌, ℕ, ◌^◌, ◌<◌, ◌≤◌, Bool, true, false, List, get_or, Decides, Result, arith}
+use Rattle.std.proofs.Common.{◌≡◌, ℕ, ◌^◌, ◌<◌, ◌≤◌, false, List, get_or, Decides, Result, arith}
 use Rattle.std.specs.Result.{OkIff}
 use Rattle.std.specs.Str.Parse.{IsNumeral, digits_value, ParsesUnsigned}
 use Rattle.std.proofs.lemmas.Str.Parse.{digit_at, without_leading_plus_none}
-use Rattle.words.specs.Spoken.{Writes, Unreadable}
+use Rattle.words.specs.Spoken.{Unreadable}
 
 -- a sign in front is no digit
 pub signed : (word : List ℕ) (bound : ℕ) → get_or word 0 0 ≡ 43 → Unreadable bound word

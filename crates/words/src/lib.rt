@@ -1,5 +1,6 @@
 //! What the reading of lines shares: the number that a word writes, the words of a line, the lines to pass over, the count of lines.
 #![tactic(auto)]
+
 ghost use Rattle.std.specs.Prelude.{◌≡◌, ◌+◌, ◌≤◌, IfOk, MatchBool, MatchOption};
 ghost use Rattle.words.specs.Spoken.{Writes, Unreadable, Words, PassedOver, Worded, texts, newlines};
 

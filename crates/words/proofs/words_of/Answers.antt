@@ -3,4 +3,4 @@ use Rattle.words.proofs.Spoken.{words_collected}
 use Rattle.words.proofs.words_of.Goals as goal
 
 pub returns : goal.returns
-returns c = words_collected vec_items vec_len _ _ _ c.split-whitespace.ensures.rest c.collect.ensures.runs
+returns c = words_collected vec_items vec_len _ _ _ c.split_whitespace.ensures.rest c.collect.ensures.runs

@@ -4,6 +4,6 @@ use Rattle.items.proofs.lists.stands.Goals as goal
 
 pub returns : goal.returns
 returns c =
-    let some = c.is-some.ensures in
-    let since = stands_since c.args.number c.args.items.now c.place-of.result c.place-of.ensures in
+    let some = c.is_some.ensures in
+    let since = stands_since c.args.number c.args.items.now c.place_of.result c.place_of.ensures in
     cc

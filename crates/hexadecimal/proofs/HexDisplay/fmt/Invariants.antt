@@ -1,7 +1,7 @@
 use Rattle.std.specs.Fmt.{IsPlainFormatter, HasWritten}
 use Rattle.std.proofs.Common.{take}
-use Rattle.hex.specs.Digits.{hex_text}
-use Rattle.hex.proofs.HexDisplay.fmt.Given as goal
+use Rattle.hexadecimal.specs.Digits.{hex_text}
+use Rattle.hexadecimal.proofs.HexDisplay.fmt.Given as goal
 
 abbrev pub invariant-loop-byte : goal.invariant-loop-byte
 invariant-loop-byte g l = IsPlainFormatter l.initial.f → HasWritten g.W.Write.write_str_gives l.initial.f (hex_text (take l.byte-index l.self.0.now)) l.f

@@ -1,9 +1,9 @@
 use Rattle.std.proofs.Common.{◌≡◌, ℕ, ◌≤◌, List, length, Some, None, vec_items, Option, refl, ap, ◌∙◌, arith, rules}
 use Rattle.std.specs.Option.{option_map}
-use Rattle.hex.specs.Digits.{unhex}
-use Rattle.hex.proofs.Pairs.{read_more, read_none, read_all, read_odd, read_back}
-use Rattle.hex.proofs.bytes_of.Goals as goal
-use Rattle.hex.proofs.bytes_of.Goals.{then-is-empty, else-is-empty}
+use Rattle.hexadecimal.specs.Digits.{unhex}
+use Rattle.hexadecimal.proofs.Pairs.{read_more, read_none, read_all, read_odd, read_back}
+use Rattle.hexadecimal.proofs.bytes_of.Goals as goal
+use Rattle.hexadecimal.proofs.bytes_of.Goals.{then-is-empty, else-is-empty}
 
 pub returns-in-None : goal.returns-in-None
 returns-in-None c =

@@ -1,7 +1,7 @@
 use Rattle.std.proofs.Common.{◌≡◌, ◌++◌, length, vec_items}
 use Rattle.std.specs.Option.{option_map}
-use Rattle.hex.specs.Digits.{unhex}
-use Rattle.hex.proofs.bytes_of.Given as goal
+use Rattle.hexadecimal.specs.Digits.{unhex}
+use Rattle.hexadecimal.proofs.bytes_of.Given as goal
 
 abbrev pub invariant-loop-digits : goal.invariant-loop-digits
 invariant-loop-digits l = option_map (λ rest. vec_items l.bytes ++ rest) (unhex l.digits) ≡ unhex l.word

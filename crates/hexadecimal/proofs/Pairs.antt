@@ -9,7 +9,7 @@ use Rattle.std.proofs.Output.{has_written_append, has_written_of_eq}
 use Rattle.std.proofs.lemmas.List.{take_rest, take_more}
 use Rattle.std.proofs.lemmas.Bool.{cond-true, cond_both, and_from, lt-ltb}
 use Rattle.std.proofs.lemmas.Str.{digit_value-digit_char, encode_ascii}
-use Rattle.hex.specs.Digits.{pair_byte, ahead, unhex, hex_text, Bytes}
+use Rattle.hexadecimal.specs.Digits.{pair_byte, ahead, unhex, hex_text, Bytes}
 
 -- what is left of a word after two digits
 abbrev pub rest_of : List ℕ → List ℕ

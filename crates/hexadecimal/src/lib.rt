@@ -3,7 +3,7 @@
 ghost use Rattle.std.specs.Prelude.{◌≡◌, ℕ, ◌<◌, List, IfOk, Some, vec_items};
 ghost use Rattle.std.specs.Option.{option_map};
 ghost use Rattle.std.specs.Char.{digit_char};
-ghost use Rattle.hex.specs.Digits.{pair_byte, unhex, hex_text, Bytes};
+ghost use Rattle.hexadecimal.specs.Digits.{pair_byte, unhex, hex_text, Bytes};
 
 use std::alloc::{AllocError, Global};
 use std::fmt;

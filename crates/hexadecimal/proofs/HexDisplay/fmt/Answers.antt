@@ -1,9 +1,9 @@
 use Rattle.std.proofs.Common.{true, refl, ap, arith}
 use Rattle.std.proofs.Output.{writes_in_calls_nil, has_written_of_eq}
 use Rattle.std.proofs.lemmas.List.{take_all}
-use Rattle.hex.specs.Digits.{hex_text}
-use Rattle.hex.proofs.Pairs.{put_byte}
-use Rattle.hex.proofs.HexDisplay.fmt.Goals as goal
+use Rattle.hexadecimal.specs.Digits.{hex_text}
+use Rattle.hexadecimal.proofs.Pairs.{put_byte}
+use Rattle.hexadecimal.proofs.HexDisplay.fmt.Goals as goal
 
 pub loop-byte-init : goal.loop-byte-init
 loop-byte-init g c plain = record { wrote = writes_in_calls_nil g.W.Write.write_str_gives c.args.f.now.writer; plain = plain }
