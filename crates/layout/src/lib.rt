@@ -1,5 +1,6 @@
 //! The plan file, byte by byte: what it holds, why a reader sends one back, and that a plan and its file determine each other.
 #![tactic(auto)]
+
 ghost use Rattle.std.specs.Prelude.{◌≡◌};
 ghost use Rattle.layout.specs.Faults.{file_number};
 ghost use Rattle.layout.specs.Stands.{FilesStand};

@@ -1,4 +1,5 @@
 //! Lines of text on the stack: words and decimal numbers, one behind the other.
 #![tactic(auto)]
+
 pub mod line;
 mod numeral;

@@ -1,5 +1,6 @@
 //! Tables of release windows, the runs of a plan's items, and what windows promise: the theory below the settle call.
 #![tactic(auto)]
+
 ghost use Rattle.tables.specs.Stands.{Sound, Settling};
 
 use service::Rule;
