@@ -1,5 +1,6 @@
 //! Consulting a service rule: the rows of each resource from a plan's items and their windows, and the rule's answer for every item.
 #![tactic(auto)]
+
 pub mod chains;
 pub mod rounds;
 pub mod rows;

@@ -1,5 +1,6 @@
 //! The text that describes one resource: a line with the bit time, then a line for each row.
 #![tactic(auto)]
+
 pub mod fault;
 #[cfg(test)]
 mod tests;

@@ -1,6 +1,7 @@
-#![tactic(auto)]
 // The plan: up to 256 items over 1 to 16 resources, with a journal of its last 32 edits.
 // No plan can exist whose items are not valid, or whose journal leads back to items that are not.
+#![tactic(auto)]
+
 ghost use Rattle.std.specs.Prelude.{◌≡◌, ◌≤◌, length};
 ghost use Rattle.items.specs.Journal.{WellKept};
 ghost use Rattle.plan.specs.States.{state_of};

@@ -1,5 +1,6 @@
 //! The service rules: the climb to a smallest solution, a processor, a bus, and the layers over rules.
 #![tactic(auto)]
+
 pub mod bus;
 pub mod climb;
 pub mod demand;

@@ -1,5 +1,6 @@
 //! The calls that the speed comparison makes of the proved libraries, as C functions.
 #![tactic(auto)]
+
 ghost use Rattle.std.specs.Prelude.{◌≡◌};
 ghost use Rattle.service.specs.Answers.{answered_worst};
 ghost use Rattle.bounds.specs.Equations.{processor_worst, bus_worst};

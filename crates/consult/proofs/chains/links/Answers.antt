@@ -9,7 +9,7 @@ loop-at-preserved c =
     let i = c.loop-at.at in
     let xs = c.args.items.now in
     let inside : i < length c.loop-at.places = omega arith in
-    let link : c.place-of-number.result ≡ place_of (item_at xs i).predecessor xs = cc in (
+    let link : c.place_of_number.result ≡ place_of (item_at xs i).predecessor xs = cc in (
       length-set _ _ _ ∙ c.loop-at.invariant.0,
       below_more _ _
           (λ k h. let ne : k ≢ i = omega arith in rw get_or-set_other (c.loop-at.invariant.1 k h))

@@ -6,8 +6,8 @@ use Rattle.consult.proofs.Periods.{own_period, before}
 use Rattle.consult.proofs.chains.periods.Goals as goal
 use Rattle.consult.proofs.chains.periods.Goals.{then-items-at-eq0, else-items-at-eq0}
 
-pub offset-bounds-ticks-places : goal.offset-bounds-ticks-places
-offset-bounds-ticks-places c =
+pub offset_bounds-ticks-places : goal.offset_bounds-ticks-places
+offset_bounds-ticks-places c =
     let b = before c.requires.0.0 c.args.items.now c.requires.0.1 c.loop-at.at c.loop-at-test.true (λ z. omega arith) in
     let link = c.requires.1 c.loop-at.at c.loop-at-test.true in
     let few = c.requires.0.1.size in

@@ -13,7 +13,7 @@ use Rattle.consult.proofs.rounds.ask_each.Goals.{then-items-at, else-items-at}
 pub loop-at-preserved : goal.loop-at-preserved
 loop-at-preserved g c =
     let rule : Numbers = record { least = g.R.Rule.least c.args.rule.now; worst = g.R.Rule.worst c.args.rule.now } in
-    let bit = c.args.bit_time_of in
+    let bit = c.args.bit_time in
     let rows = c.args.rows.now in
     let xs = c.args.items.now in
     let r = c.args.resource in

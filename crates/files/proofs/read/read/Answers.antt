@@ -77,7 +77,7 @@ loop-place-preserved c =
 pub returns : goal.returns
 returns c =
     let b = c.args.bytes.now in
-    let small : Bytes b = λ k below. omega (arith, c.type-inv.bytes k) in
+    let small : Bytes b = λ k below. omega (arith, c.type_inv.bytes k) in
     let all : c.loop-place.place ≡ items_in c.over-file.result.bytes.now = omega (arith, c.count-place-end.ensures, c.loop-place-test.false, c.loop-place.auto.place-end) in
     let far : SoFar b (view c.loop-place.plan) (items_in b) =
     subst (λ l. SoFar l (view c.loop-place.plan) (items_in l)) c.over-file.ensures (subst (SoFar c.over-file.result.bytes.now (view c.loop-place.plan)) all c.loop-place.invariant) in

@@ -13,10 +13,10 @@ loop-byte-preserved g c plain =
     let bytes = c.args.self.now.0.now in
     let i = c.loop-byte.byte-index in
     let old = c.loop-byte.invariant plain in
-    let high = c.in-ok-write-char.ensures.writes old.plain (refl {a = true}) in
-    let low = c.in-ok-write-char-2.ensures.writes high.plain (refl {a = true}) in
-    put_byte g.W.Write.write_str_gives c.args.f.now c.loop-byte.f c.write-char.new.self c.write-char-in-loop-byte.new.self bytes i c.digit-of.result c.digit-of-in-loop-byte.result
-    c.loop-byte-test.true (omega arith) c.digit-of.ensures c.digit-of-in-loop-byte.ensures old high low
+    let high = c.in_ok-write_char.ensures.writes old.plain (refl {a = true}) in
+    let low = c.in_ok-write_char-2.ensures.writes high.plain (refl {a = true}) in
+    put_byte g.W.Write.write_str_gives c.args.f.now c.loop-byte.f c.write_char.new.self c.write_char-in-loop-byte.new.self bytes i c.digit_of.result c.digit_of-in-loop-byte.result
+    c.loop-byte-test.true (omega arith) c.digit_of.ensures c.digit_of-in-loop-byte.ensures old high low
 
 pub returns-clause-writes : goal.returns-clause-writes
 returns-clause-writes g c plain ok =

@@ -11,13 +11,13 @@ returns-then-words-ne5 c =
 pub loop-at-preserved : goal.loop-at-preserved
 loop-at-preserved c = (
   simp length-set c.loop-at.invariant.0,
-  one_more c.args.words.now c.loop-at.at c.in-ok-numbers.field-0 c.loop-at.numbers (omega (arith, c.loop-at.invariant.0)) c.loop-at.invariant.1 c.in-ok-numbers.ensures,
+  one_more c.args.words.now c.loop-at.at c.in_ok-numbers.field-0 c.loop-at.numbers (omega (arith, c.loop-at.invariant.0)) c.loop-at.invariant.1 c.in_ok-numbers.ensures,
 )
 
-pub returns-in-err-numbers : goal.returns-in-err-numbers
-returns-in-err-numbers c =
+pub returns-in_err-numbers : goal.returns-in_err-numbers
+returns-in_err-numbers c =
     let five : length c.args.words.now ≡ 5 = omega arith in
-    wrong_word c.field-at.result c.args.words.now c.from-residual.result _ c.from-residual.ensures.1 five c.loop-at.at c.field-at.ensures c.in-err-numbers.ensures
+    wrong_word c.field_at.result c.args.words.now c.from_residual.result _ c.from_residual.ensures.1 five c.loop-at.at c.field_at.ensures c.in_err-numbers.ensures
 
 pub returns : goal.returns
 returns c =

@@ -14,25 +14,25 @@ use Rattle.plan.proofs.Calls.{told, place_room, placed_state}
 use Rattle.plan.proofs.Plan.place.Goals as goal
 use Rattle.plan.proofs.Plan.place.Goals.{After-note}
 
-pub returns-in-err-check-place : goal.returns-in-err-check-place
-returns-in-err-check-place c =
+pub returns-in_err-check_place : goal.returns-in_err-check_place
+returns-in_err-check_place c =
     let s = view c.args.self.now in
     let e = placed c.args.item in
-    let out = err_from_is_err_and c.from-residual.result c.from-residual.ensures.1 in
-    let is = told s e _ _ c.bit_times.ensures c.items.ensures c.in-err-check-place.ensures in
+    let out = err_from_is_err_and c.from_residual.result c.from_residual.ensures.1 in
+    let is = told s e _ _ c.bit_times.ensures c.items.ensures c.in_err-check_place.ensures in
     record { answer = out.1 ∙ (ap Err out.2 ∙ is); state = state_refused s e _ (refused_from _ _ is) }
 
 pub put-requires : goal.put-requires
 put-requires c =
     let s = view c.args.self.now in
     let e = placed c.args.item in
-    let is = told s e _ _ c.bit_times.ensures c.items.ensures c.in-ok-check-place.ensures in
+    let is = told s e _ _ c.bit_times.ensures c.items.ensures c.in_ok-check_place.ensures in
     place_room c.args.self.now c.args.item (accepted_from _ _ is)
 
 accepted : (c : After-note) → place_refusal (view c.args.self.now).bits (view c.args.self.now).items c.args.item ≡ None
 accepted c =
     let s = view c.args.self.now in
-    accepted_from _ _ (told s (placed c.args.item) _ _ c.bit_times.ensures c.items.ensures c.in-ok-check-place.ensures)
+    accepted_from _ _ (told s (placed c.args.item) _ _ c.bit_times.ensures c.items.ensures c.in_ok-check_place.ensures)
 
 -- the plan's parts are those of the state after the visit
 state : (c : After-note) → state_of c.args.self.now.resources c.put.new.self c.note.new.self ≡ visited (view c.args.self.now) (edit (placed c.args.item))
@@ -43,14 +43,14 @@ state c =
     let journal : entries_in c.note.new.self ≡ noted (record { number = x.number; before = None }) (entries_in p.journal) = cc in
     placed_state p x (accepted c) c.put.new.self c.note.new.self items journal
 
-pub invariant-of-self : goal.invariant-of-self
-invariant-of-self c =
+pub invariant_of-self : goal.invariant_of-self
+invariant_of-self c =
     let p = c.args.self.now in
     let room = place_room p c.args.item (accepted c) in
-    (p.bits_whole, (p.bits_within, (c.put.ensures.long ∙ p.items_whole, (omega arith, (c.note.ensures.long ∙ p.entries_whole, (c.note.ensures.count, (kept_after (view p) _ (edit (placed c.args.item)) (plan_kept p) (state c), tt)))))))
+    record { bits_whole = p.bits_whole; bits_within = p.bits_within; items_whole = c.put.ensures.long ∙ p.items_whole; items_within = omega arith; entries_whole = c.note.ensures.long ∙ p.entries_whole; entries_within = c.note.ensures.count; kept = kept_after (view p) _ (edit (placed c.args.item)) (plan_kept p) (state c) }
 
 pub returns : goal.returns
 returns c =
     let s = view c.args.self.now in
-    let is = told s (placed c.args.item) _ _ c.bit_times.ensures c.items.ensures c.in-ok-check-place.ensures in
+    let is = told s (placed c.args.item) _ _ c.bit_times.ensures c.items.ensures c.in_ok-check_place.ensures in
     record { answer = is; state = state (goal.at.returns c).After-note }

@@ -19,8 +19,8 @@ put-requires c =
     let gone : items_in c.strike-2.new.self ≡ without_item e.number (items_in p.inner) = cc in
     undo_room p e c.strike.new.self c.in-Some.ensures.list c.in-Some-before.record c.in-Some-before.is c.strike-2.new.self within (c.strike-2.ensures.long ∙ p.items_whole) gone
 
-pub invariant-of-self-in-Some-before : goal.invariant-of-self-in-Some-before
-invariant-of-self-in-Some-before c =
+pub invariant_of-self-in-Some-before : goal.invariant_of-self-in-Some-before
+invariant_of-self-in-Some-before c =
     let p = c.args.self.now in
     let e = c.in-Some.newest in
     let x = c.in-Some-before.record in
@@ -30,13 +30,13 @@ invariant-of-self-in-Some-before c =
     let put : items_in c.put.new.self ≡ with_item x (items_in c.strike-2.new.self) = cc in
     let back : with_item x (without_item e.number (items_in p.inner)) ≡ undone e (items_in p.inner) = ap (λ (o : Option Item). restored o (without_item e.number (items_in p.inner))) (sym c.in-Some-before.is) in
     let state : state_of p.resources c.put.new.self c.strike.new.self ≡ visited (view p) undo = undone_state p e c.strike.new.self c.in-Some.ensures.list c.put.new.self (put ∙ (ap (with_item x) gone ∙ back)) in
-    (p.bits_whole, (p.bits_within, (c.put.ensures.long ∙ (c.strike-2.ensures.long ∙ p.items_whole), (omega (arith, c.put.ensures.count), (c.strike.ensures.long ∙ p.entries_whole, (omega (arith, c.strike.ensures.count, p.entries_within), (kept_after (view p) _ undo (plan_kept p) state, tt)))))))
+    record { bits_whole = p.bits_whole; bits_within = p.bits_within; items_whole = c.put.ensures.long ∙ (c.strike-2.ensures.long ∙ p.items_whole); items_within = omega (arith, c.put.ensures.count); entries_whole = c.strike.ensures.long ∙ p.entries_whole; entries_within = omega (arith, c.strike.ensures.count, p.entries_within); kept = kept_after (view p) _ undo (plan_kept p) state }
 
-pub invariant-of-self-in-default-before : goal.invariant-of-self-in-default-before
-invariant-of-self-in-default-before c =
+pub invariant_of-self-in_default-before : goal.invariant_of-self-in_default-before
+invariant_of-self-in_default-before c =
     let p = c.args.self.now in
     let e = c.in-Some.newest in
     let gone : items_in c.strike-2.new.self ≡ without_item e.number (items_in p.inner) = cc in
-    let back : without_item e.number (items_in p.inner) ≡ undone e (items_in p.inner) = ap (λ (o : Option Item). restored o (without_item e.number (items_in p.inner))) (sym c.in-default-before.is) in
+    let back : without_item e.number (items_in p.inner) ≡ undone e (items_in p.inner) = ap (λ (o : Option Item). restored o (without_item e.number (items_in p.inner))) (sym c.in_default-before.is) in
     let state : state_of p.resources c.strike-2.new.self c.strike.new.self ≡ visited (view p) undo = undone_state p e c.strike.new.self c.in-Some.ensures.list c.strike-2.new.self (gone ∙ back) in
-    (p.bits_whole, (p.bits_within, (c.strike-2.ensures.long ∙ p.items_whole, (omega (arith, c.strike-2.ensures.count, p.items_within), (c.strike.ensures.long ∙ p.entries_whole, (omega (arith, c.strike.ensures.count, p.entries_within), (kept_after (view p) _ undo (plan_kept p) state, tt)))))))
+    record { bits_whole = p.bits_whole; bits_within = p.bits_within; items_whole = c.strike-2.ensures.long ∙ p.items_whole; items_within = omega (arith, c.strike-2.ensures.count, p.items_within); entries_whole = c.strike.ensures.long ∙ p.entries_whole; entries_within = omega (arith, c.strike.ensures.count, p.entries_within); kept = kept_after (view p) _ undo (plan_kept p) state }

@@ -10,13 +10,13 @@ use Rattle.plan.proofs.Kept.{plan_kept, kept_after, accepted_from}
 use Rattle.plan.proofs.Calls.{told, withdrawn_state}
 use Rattle.plan.proofs.Plan.withdraw.Goals as goal
 
-pub invariant-of-self : goal.invariant-of-self
-invariant-of-self c =
+pub invariant_of-self : goal.invariant_of-self
+invariant_of-self c =
     let p = c.args.self.now in
     let n = c.args.number in
-    let is = told (view p) (withdrawn n) (view p).bits _ refl c.items.ensures c.in-ok-check-withdraw.ensures in
+    let is = told (view p) (withdrawn n) (view p).bits _ refl c.items.ensures c.in_ok-check_withdraw.ensures in
     let before : c.strike-before.result ≡ item_of n (items_in p.inner) = cc in
     let items : items_in c.strike-before.new.self ≡ without_item n (items_in p.inner) = cc in
     let journal : entries_in c.note.new.self ≡ noted (record { number = n; before = c.strike-before.result }) (entries_in p.journal) = cc in
     let state = withdrawn_state p n (accepted_from _ _ is) c.strike-before.result c.strike-before.new.self c.note.new.self before items journal in
-    (p.bits_whole, (p.bits_within, (c.strike-before.ensures.long ∙ p.items_whole, (omega arith, (c.note.ensures.long ∙ p.entries_whole, (c.note.ensures.count, (kept_after (view p) _ (edit (withdrawn n)) (plan_kept p) state, tt)))))))
+    record { bits_whole = p.bits_whole; bits_within = p.bits_within; items_whole = c.strike-before.ensures.long ∙ p.items_whole; items_within = omega arith; entries_whole = c.note.ensures.long ∙ p.entries_whole; entries_within = c.note.ensures.count; kept = kept_after (view p) _ (edit (withdrawn n)) (plan_kept p) state }

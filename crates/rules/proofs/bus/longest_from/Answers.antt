@@ -15,7 +15,7 @@ loop-told-preserved c =
     elim c.if-priority-told.branch [
       | then-priority-told w ↦
           let test : leb c.args.priority (row rs i).priority ≡ true = le-leb _ _ (omega (arith, w.if-priority-told.true)) in
-          (omega (arith, rw test at more, w.most-is, w.max-most.ensures, c.loop-told.invariant.0), omega (arith, w.most-is, w.max-most.type-inv))
+          (omega (arith, rw test at more, w.most-is, w.max-most.ensures, c.loop-told.invariant.0), omega (arith, w.most-is, w.max-most.type_inv))
       | else-priority-told w ↦
           let test : leb c.args.priority (row rs i).priority ≡ false = lt-leb _ _ (omega (arith, w.if-priority-told.false)) in
           (omega (arith, rw test at more, w.most-is, c.loop-told.invariant.0), omega (arith, w.most-is, c.loop-told.invariant.1))

@@ -10,7 +10,7 @@ pub returns : goal.returns
 returns c =
     let rs = c.args.records.now in
     let worst : Record → Option ℕ = λ r. fitting r (solution (λ n. r.greatest + above r.priority 0 n rs) r.period) in
-    let w = record_of c.row-at-row.result in
+    let w = record_of c.row_at-row.result in
     let alone = plus_none (solution (λ n. w.greatest + above w.priority 0 n rs) w.period) in
     let here : c.response.result ≡ worst w = cc in
-    here ∙ ap worst c.row-at-row.ensures
+    here ∙ ap worst c.row_at-row.ensures

@@ -4,8 +4,8 @@ use Rattle.words.specs.Spoken.{texts}
 use Rattle.script.proofs.Spoken.{lined}
 use Rattle.script.proofs.read.command_of.Goals as goal
 
-pub returns-in-err-words : goal.returns-in-err-words
-returns-in-err-words c = let exit = err_from_is_err_and c.from-residual.result c.from-residual.ensures.1 in rw exit.1 (inl exit.2)
+pub returns-in_err-words : goal.returns-in_err-words
+returns-in_err-words c = let exit = err_from_is_err_and c.from_residual.result c.from_residual.ensures.1 in rw exit.1 (inl exit.2)
 
 pub returns : goal.returns
-returns c = lined _ (texts (vec_items c.in-ok-words.words)) _ c.in-ok-words.ensures (rw c.as-slice.ensures.value at c.command-in.ensures)
+returns c = lined _ (texts (vec_items c.in_ok-words.words)) _ c.in_ok-words.ensures (rw c.as_slice.ensures.value at c.command_in.ensures)

@@ -11,16 +11,16 @@ use Rattle.script.proofs.read.open_of.Goals as goal
 
 pub loop-k-preserved : goal.loop-k-preserved
 loop-k-preserved c =
-    bit_more c.args.words.now (vec_items c.loop-k.bits) (vec_items c.push.new.self) c.loop-k.k c.in-ok-n.n
-    c.in-ok-push.ensures.items c.loop-k.invariant c.in-ok-n.ensures.writes
+    bit_more c.args.words.now (vec_items c.loop-k.bits) (vec_items c.push.new.self) c.loop-k.k c.in_ok-n.n
+    c.in_ok-push.ensures.items c.loop-k.invariant c.in_ok-n.ensures.writes
 
-pub returns-in-err-n : goal.returns-in-err-n
-returns-in-err-n c =
-    misread Open (texts c.args.words.now) c.from-residual.result _ c.in-err-n.field-0.0 c.from-residual.ensures.1
-    (misread_at c.args.words.now c.loop-k.k c.loop-k-test.true BitTime _ c.in-err-n.ensures)
+pub returns-in_err-n : goal.returns-in_err-n
+returns-in_err-n c =
+    misread Open (texts c.args.words.now) c.from_residual.result _ c.in_err-n.field-0.0 c.from_residual.ensures.1
+    (misread_at c.args.words.now c.loop-k.k c.loop-k-test.true BitTime _ c.in_err-n.ensures)
 
-pub returns-in-err-push : goal.returns-in-err-push
-returns-in-err-push c = handed c.from-residual-in-err-push.result _ (Amiss Open (texts c.args.words.now)) Memory c.from-residual-in-err-push.ensures.1 tt
+pub returns-in_err-push : goal.returns-in_err-push
+returns-in_err-push c = handed c.from_residual-in_err-push.result _ (Amiss Open (texts c.args.words.now)) Memory c.from_residual-in_err-push.ensures.1 tt
 
 pub returns : goal.returns
 returns c =

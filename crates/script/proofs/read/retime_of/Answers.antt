@@ -7,17 +7,17 @@ use Rattle.script.specs.Commands.{WorkWords, Amiss}
 use Rattle.script.proofs.Reading.{handed, misread}
 use Rattle.script.proofs.read.retime_of.Goals as goal
 
-pub returns-in-err-n : goal.returns-in-err-n
-returns-in-err-n c = misread Retime _ _ _ _ c.from-residual.ensures.1 c.in-err-n.ensures
+pub returns-in_err-n : goal.returns-in_err-n
+returns-in_err-n c = misread Retime _ _ _ _ c.from_residual.ensures.1 c.in_err-n.ensures
 
-pub returns-in-err-work : goal.returns-in-err-work
-returns-in-err-work c = handed _ _ (Amiss Retime _) _ c.from-residual-in-err-work.ensures.1 c.in-err-work.ensures
+pub returns-in_err-work : goal.returns-in_err-work
+returns-in_err-work c = handed _ _ (Amiss Retime _) _ c.from_residual-in_err-work.ensures.1 c.in_err-work.ensures
 
-pub overflow-cast-result : goal.overflow-cast-result
-overflow-cast-result c = Fits-below tt (c.in-ok-n.ensures 0 (lit< tt)).small
+pub overflow_cast-result : goal.overflow_cast-result
+overflow_cast-result c = Fits-below tt (c.in_ok-n.ensures 0 (lit< tt)).small
 
 pub returns : goal.returns
 returns c =
     let words = c.args.words.now in
-    let work = subst (λ end. WorkWords (texts words) 2 end c.in-ok-work.work) (sym (length-map words (λ w. w.now))) c.in-ok-work.ensures in
-    (refl, ((c.in-ok-n.ensures 0 (lit< tt)).writes, work))
+    let work = subst (λ end. WorkWords (texts words) 2 end c.in_ok-work.work) (sym (length-map words (λ w. w.now))) c.in_ok-work.ensures in
+    (refl, ((c.in_ok-n.ensures 0 (lit< tt)).writes, work))

@@ -11,7 +11,7 @@ returns c =
     let few : c.min-older.result ≡ min j.count 31 = omega arith in
     let older : take c.min-older.result j.entries ≡ take 31 (take j.count j.entries) = ap (λ (n : ℕ). take n j.entries) few ∙ kept_front j.count 31 j.entries in
     record {
-      list = c.insert-at.ensures.list ∙ ap (λ (es : List Entry). e ∷ es) older;
+      list = c.insert_at.ensures.list ∙ ap (λ (es : List Entry). e ∷ es) older;
       count = omega arith;
-      long = c.insert-at.ensures.long;
+      long = c.insert_at.ensures.long;
     }

@@ -12,9 +12,9 @@ returns c =
     let long : length (take j.count j.entries) ≡ j.count = length-take-le _ _ (omega arith) in
     let front : take j.count j.entries ≡ get_or (take j.count j.entries) 0 none ∷ drop 1 (take j.count j.entries) = drop_more (take j.count j.entries) 0 none (omega arith) in
     let newest : get_or (take j.count j.entries) 0 none ≡ get_or j.entries 0 none = get_or-take j.count j.entries 0 none some in
-    let older : drop 1 (take j.count j.entries) ≡ take (j.count - 1) c.remove-at.new.slots = sym c.remove-at.ensures.list in
+    let older : drop 1 (take j.count j.entries) ≡ take (j.count - 1) c.remove_at.new.slots = sym c.remove_at.ensures.list in
     record {
       count = omega arith;
       list = cc;
-      long = c.remove-at.ensures.long;
+      long = c.remove_at.ensures.long;
     }

@@ -10,9 +10,9 @@ pub returns : goal.returns
 returns c =
     let xs = items_in c.args.self.now in
     let x = c.args.item in
-    let at : c.rank-of-at.result ≡ rank x.number xs = cc in
+    let at : c.rank_of-at.result ≡ rank x.number xs = cc in
     record {
-      list = c.insert-at.ensures.list ∙ (ap (λ (p : ℕ). insert xs p x) at ∙ with_at_rank x xs);
+      list = c.insert_at.ensures.list ∙ (ap (λ (p : ℕ). insert xs p x) at ∙ with_at_rank x xs);
       count = refl;
-      long = c.insert-at.ensures.long;
+      long = c.insert_at.ensures.long;
     }

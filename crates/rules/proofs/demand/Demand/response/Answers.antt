@@ -7,22 +7,22 @@ use Rattle.rules.proofs.demand.Demand.response.Goals as goal
 use Rattle.rules.proofs.demand.Demand.response.Goals.{After-climb}
 
 -- the room is what the period leaves beside the jitter and what follows
-room : (c : After-climb) → c.args.row.now.jitter + (c.in-ok-room.room + c.args.after) ≡ c.args.row.now.period
-room c = let a = c.in-ok-checked-sub.ensures in let b = c.in-ok-room.ensures in omega arith
+room : (c : After-climb) → c.args.row.now.jitter + (c.in_ok-room.room + c.args.after) ≡ c.args.row.now.period
+room c = let a = c.in_ok-checked_sub.ensures in let b = c.in_ok-room.ensures in omega arith
 
-pub returns-in-err-wait : goal.returns-in-err-wait
-returns-in-err-wait c =
+pub returns-in_err-wait : goal.returns-in_err-wait
+returns-in_err-wait c =
     let r = record_of c.args.row.now in
     let step : ℕ → ℕ = demanded c.args.self.now c.args.records.now in
-    let is = room (goal.at.returns-in-err-wait c).After-climb in
+    let is = room (goal.at.returns-in_err-wait c).After-climb in
     let late : (v : ℕ) → step v ≡ v → c.args.row.now.period < c.args.row.now.jitter + (v + c.args.after) =
-    λ v fixed. elim (cases_lt c.in-ok-room.room v) [ inl over ↦ omega arith | inr fits ↦ absurd (c.in-err-wait.ensures v fits fixed) ] in
-    c.from-residual-in-err-wait.ensures ∙ sym (fitting_none r step c.args.after late)
+    λ v fixed. elim (cases_lt c.in_ok-room.room v) [ inl over ↦ omega arith | inr fits ↦ absurd (c.in_err-wait.ensures v fits fixed) ] in
+    c.from_residual-in_err-wait.ensures ∙ sym (fitting_none r step c.args.after late)
 
 pub returns : goal.returns
 returns c =
     let r = record_of c.args.row.now in
     let step : ℕ → ℕ = demanded c.args.self.now c.args.records.now in
     let is = room (goal.at.returns c).After-climb in
-    let found = c.in-ok-wait.ensures in
-    sym (fitting_smallest r step c.args.after c.in-ok-wait.wait.count found.0 (omega (arith, found.1)))
+    let found = c.in_ok-wait.ensures in
+    sym (fitting_smallest r step c.args.after c.in_ok-wait.wait.count found.0 (omega (arith, found.1)))

@@ -7,7 +7,7 @@ use Rattle.rules.proofs.switch.rule.SwitchRule.respond.Goals as goal
 pub returns-then-self-eq0 : goal.returns-then-self-eq0
 returns-then-self-eq0 g c =
     let s = c.args.self.now in
-    let bit = c.args.bit_time_of in
+    let bit = c.args.bit_time in
     let rs = c.args.records.now in
     let p = c.args.place in
     let least = g.R.Rule.least s.below bit in
