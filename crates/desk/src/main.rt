@@ -1,6 +1,7 @@
 //! The desk: a script of visits to plans on standard input, an answer for each line on standard output.
 //! Plans are opened one after the other; each is replayed with its visits, by one call.
 #![tactic(auto)]
+
 use commands::command::Command;
 use commands::fault::Wrong;
 use commands::listed::Listed;
@@ -16,6 +17,7 @@ use std::alloc::{AllocError, AllocFailed, Global};
 use std::fmt;
 use std::fmt::Display;
 use std::io::Read;
+use std::process::ExitCode;
 use visits::replay::list::replay;
 use visits::visit::{Answer, Visit};
 use words::{is_passed_over, line_after};
@@ -35,13 +37,13 @@ fn done(visit: &Visit<DeskRule>) -> &'static str {
 }
 
 /// A line with the refusal.
-fn say_refusal(said: &mut String, refusal: Refusal) -> fmt::Result {
+fn say_refusal(said: &mut String, refusal: Refusal) -> Result<(), AllocError> {
     let number = refusal.number();
     writeln!(said, "refused {number}")
 }
 
 /// A line with the fault of a settle.
-fn say_fault(said: &mut String, fault: Fault) -> fmt::Result {
+fn say_fault(said: &mut String, fault: Fault) -> Result<(), AllocError> {
     let number = fault.number();
     match fault {
         Fault::Unbounded {
@@ -57,7 +59,7 @@ fn say_fault(said: &mut String, fault: Fault) -> fmt::Result {
 }
 
 /// A line for each row: the item's number and its finish window.
-fn say_windows(said: &mut String, rows: &[WindowRow]) -> fmt::Result {
+fn say_windows(said: &mut String, rows: &[WindowRow]) -> Result<(), AllocError> {
     for row in rows {
         let number = row.number;
         let earliest = row.finish_open;
@@ -68,7 +70,7 @@ fn say_windows(said: &mut String, rows: &[WindowRow]) -> fmt::Result {
 }
 
 /// A line for each item, in the form in which a script places it.
-fn say_items(said: &mut String, items: &[Item]) -> fmt::Result {
+fn say_items(said: &mut String, items: &[Item]) -> Result<(), AllocError> {
     for item in items {
         let listed = Listed(*item);
         writeln!(said, "{listed}")?;
@@ -77,7 +79,7 @@ fn say_items(said: &mut String, items: &[Item]) -> fmt::Result {
 }
 
 /// What a visit is answered.
-fn say(said: &mut String, visit: &Visit<DeskRule>, answer: &Answer) -> fmt::Result {
+fn say(said: &mut String, visit: &Visit<DeskRule>, answer: &Answer) -> Result<(), AllocError> {
     match answer {
         Answer::Accepted => {
             let done = done(visit);
@@ -153,12 +155,6 @@ impl<T: Drop> From<AllocFailed<T>> for Reason<'_> {
 impl<'a> From<Wrong<'a>> for Reason<'a> {
     fn from(wrong: Wrong<'a>) -> Self {
         Reason::Line(wrong)
-    }
-}
-
-impl From<fmt::Error> for Reason<'_> {
-    fn from(_error: fmt::Error) -> Self {
-        Reason::Memory
     }
 }
 
@@ -301,17 +297,13 @@ impl Desk {
     }
 }
 
-/// Something that standard error already has a message of.
-#[derive(Drop)]
-struct Failed;
-
-/// Writes the message, and fails.
-fn fail(rt: &HostRuntime, message: impl Display + Drop) -> Result<(), Failed> {
+/// Writes the message to standard error, and fails.
+fn fail(rt: &HostRuntime, message: impl Display + Drop) -> ExitCode {
     let _ = eprintln!(rt; "{message}");
-    Err(Failed)
+    ExitCode::FAILURE
 }
 
-fn main(rt: HostRuntime) -> Result<(), Failed> {
+fn main(rt: HostRuntime) -> ExitCode {
     let heap = rt.alloc();
     let mut bytes = Vec::new(heap);
     if let Err(error) = rt.stdin().read_to_end(&mut bytes) {
@@ -331,7 +323,7 @@ fn main(rt: HostRuntime) -> Result<(), Failed> {
         return fail(&rt, stop);
     }
     match finished {
-        Ok(()) => Ok(()),
+        Ok(()) => ExitCode::SUCCESS,
         Err(_) => fail(&rt, "there is no memory left"),
     }
 }

@@ -1,5 +1,6 @@
 //! Plan files: the bytes of a plan, read into one and written from one. docs/FORMAT.md has the format.
 #![tactic(auto)]
+
 pub mod again;
 mod file;
 pub mod read;

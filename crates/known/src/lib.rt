@@ -1,5 +1,6 @@
 //! Plans with known windows: what a settle of each comes to, by the definitions that its contract cites.
 #![tactic(auto)]
+
 ghost use Rattle.known.specs.Once.{OneWay};
 ghost use Rattle.known.specs.Stands.{KnownPlans};
 

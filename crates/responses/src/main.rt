@@ -1,21 +1,19 @@
 //! Prints the least and the worst response of each row of one resource, which standard input describes.
 #![tactic(auto)]
+
 mod answers;
 
 use std::fmt::Display;
 use std::io::Read;
+use std::process::ExitCode;
 
-/// Something that standard error already has a message of.
-#[derive(Drop)]
-struct Failed;
-
-/// Writes the message, and fails.
-fn fail(rt: &HostRuntime, message: impl Display + Drop) -> Result<(), Failed> {
+/// Writes the message to standard error, and fails.
+fn fail(rt: &HostRuntime, message: impl Display + Drop) -> ExitCode {
     let _ = eprintln!(rt; "{message}");
-    Err(Failed)
+    ExitCode::FAILURE
 }
 
-fn main(rt: HostRuntime) -> Result<(), Failed> {
+fn main(rt: HostRuntime) -> ExitCode {
     let heap = rt.alloc();
     let mut bytes = Vec::new(heap);
     if let Err(error) = rt.stdin().read_to_end(&mut bytes) {
@@ -37,5 +35,5 @@ fn main(rt: HostRuntime) -> Result<(), Failed> {
             format_args!("standard output cannot be written: {error}"),
         );
     }
-    Ok(())
+    ExitCode::SUCCESS
 }

@@ -1,5 +1,6 @@
 //! Settling a plan: sweeps over its windows until a sweep alters nothing, and the verdict on a settled item.
 #![tactic(auto)]
+
 ghost use Rattle.std.specs.Prelude.{◌≡◌};
 ghost use Rattle.settle.specs.Faults.{fault_number};
 

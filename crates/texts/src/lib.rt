@@ -1,6 +1,7 @@
 //! The texts of answers: a settled table, and why something was sent back.
 //! Each is shown by `Display` and written into a caller's buffer, both as specs/Texts.antt defines it.
 #![tactic(auto)]
+
 ghost use Rattle.std.specs.Prelude.{◌≡◌};
 ghost use Rattle.texts.specs.Numbers.{sent_number};
 

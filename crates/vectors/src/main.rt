@@ -1,6 +1,7 @@
 //! Runs plan files of an independent model, and compares what is told of them with what the model says.
 //! Each argument names two files of data/: a plan file, and the text that is expected of it.
 #![tactic(auto)]
+
 use buffers::BufferFault;
 use std::alloc::Global;
 use std::{env, fs};

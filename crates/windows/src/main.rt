@@ -1,30 +1,23 @@
 //! Reads a plan file on standard input, and prints its windows or why it is sent back.
 #![tactic(auto)]
+
 use std::fmt::Display;
 use std::io::Read;
+use std::process::ExitCode;
 use texts::{SentBack, Windows};
 use timing::line::windows_of;
 use timing::outcome::Outcome;
 
-/// Why the program ends with status 1. What there is to say of it was said.
-#[derive(Drop)]
-enum End {
-    /// The plan was sent back.
-    Refused,
-    /// Something else failed.
-    Failed,
-}
-
 /// Writes the message to standard error, and fails.
-fn fail(rt: &HostRuntime, message: impl Display + Drop) -> Result<(), End> {
+fn fail(rt: &HostRuntime, message: impl Display + Drop) -> ExitCode {
     let _ = eprintln!(rt; "{message}");
-    Err(End::Failed)
+    ExitCode::FAILURE
 }
 
-/// Prints a text that ends its own lines.
-fn tell(rt: &HostRuntime, text: impl Display + Drop) -> Result<(), End> {
+/// Prints a text that ends its own lines, and ends with a status.
+fn tell(rt: &HostRuntime, text: impl Display + Drop, status: ExitCode) -> ExitCode {
     match print!(rt; "{text}") {
-        Ok(()) => Ok(()),
+        Ok(()) => status,
         Err(error) => fail(
             rt,
             format_args!("standard output cannot be written: {error}"),
@@ -32,13 +25,12 @@ fn tell(rt: &HostRuntime, text: impl Display + Drop) -> Result<(), End> {
     }
 }
 
-/// Prints the refusal, and ends.
-fn refuse(rt: &HostRuntime, sent: SentBack) -> Result<(), End> {
-    tell(rt, sent)?;
-    Err(End::Refused)
+/// Prints the refusal, and fails.
+fn refuse(rt: &HostRuntime, sent: SentBack) -> ExitCode {
+    tell(rt, sent, ExitCode::FAILURE)
 }
 
-fn main(rt: HostRuntime) -> Result<(), End> {
+fn main(rt: HostRuntime) -> ExitCode {
     let heap = rt.alloc();
     let mut bytes = Vec::new(heap);
     if let Err(error) = rt.stdin().read_to_end(&mut bytes) {
@@ -51,6 +43,7 @@ fn main(rt: HostRuntime) -> Result<(), End> {
                 sweeps,
                 rows: rows.as_slice(),
             },
+            ExitCode::SUCCESS,
         ),
         Ok(Outcome::Unread(fault)) => refuse(&rt, SentBack::File(fault)),
         Ok(Outcome::Unsettled(fault)) => refuse(&rt, SentBack::Settle(fault)),

@@ -19,25 +19,25 @@ out b r x fault is same sent =
     let P : Result Plan FileFault → Type 0 = λ o. MatchResult o (λ p. ReadsAs b (view p)) (λ f. IsSentBack b f × NoFile b) in
     subst P (sym (is ∙ ap Err same)) (sent, no_file b fault sent)
 
-pub returns-in-err-sizes : goal.returns-in-err-sizes
-returns-in-err-sizes c =
+pub returns-in_err-sizes : goal.returns-in_err-sizes
+returns-in_err-sizes c =
     let b = c.args.bytes.now in
-    let e = err_from_is_err_and c.from-residual.result c.from-residual.ensures.1 in
-    out b c.from-residual.result e.0 c.in-err-sizes.field-0.0 e.1 e.2 (head_sent b _ c.in-err-sizes.ensures)
+    let e = err_from_is_err_and c.from_residual.result c.from_residual.ensures.1 in
+    out b c.from_residual.result e.0 c.in_err-sizes.field-0.0 e.1 e.2 (head_sent b _ c.in_err-sizes.ensures)
 
-pub returns-in-default : goal.returns-in-default
-returns-in-default c =
+pub returns-in_default : goal.returns-in_default
+returns-in_default c =
     let b = c.args.bytes.now in
     let told : c.bit_times.result.now ≡ bits_of b = c.bit_times.ensures ∙ ap bits_of c.over-file.ensures in
-    let shut : open_refusal (bits_of b) ≡ Some c.in-default.field-0 = sym (ap open_refusal told) ∙ c.in-default.ensures in
-    let sent = head_shut b _ _ c.in-ok-sizes.ensures c.in-default.field-0 shut in
+    let shut : open_refusal (bits_of b) ≡ Some c.in_default.field-0 = sym (ap open_refusal told) ∙ c.in_default.ensures in
+    let sent = head_shut b _ _ c.in_ok-sizes.ensures c.in_default.field-0 shut in
     (sent, no_file b BitTime sent)
 
 pub loop-place-init : goal.loop-place-init
 loop-place-init c =
     let b = c.over-file.result.bytes.now in
     let opened = c.in-Ok.ensures in
-    let fitted : Fitted b _ _ = subst (λ l. Fitted l c.in-ok-sizes.sizes.resources c.in-ok-sizes.sizes.items) (sym c.over-file.ensures) c.in-ok-sizes.ensures in
+    let fitted : Fitted b _ _ = subst (λ l. Fitted l c.in_ok-sizes.sizes.resources c.in_ok-sizes.sizes.items) (sym c.over-file.ensures) c.in_ok-sizes.ensures in
     let opens : open_refusal (bits_of b) ≡ None = sym (ap open_refusal c.bit_times.ensures) ∙ opened.0 in
     record {
       head = head_opens b _ _ fitted opens;
@@ -54,19 +54,19 @@ admit-requires c = record {
   good = c.loop-place.invariant.good;
 }
 
-pub returns-in-err-admit : goal.returns-in-err-admit
-returns-in-err-admit c =
+pub returns-in_err-admit : goal.returns-in_err-admit
+returns-in_err-admit c =
     let b = c.args.bytes.now in
     let k = c.loop-place.place in
-    let e = err_from_is_err_and c.from-residual-in-err-admit.result c.from-residual-in-err-admit.ensures.1 in
-    let admitted = c.in-err-admit.ensures in
+    let e = err_from_is_err_and c.from_residual-in_err-admit.result c.from_residual-in_err-admit.ensures.1 in
+    let admitted = c.in_err-admit.ensures in
     let within : k < items_in c.over-file.result.bytes.now = subst (λ n. k < n) c.count-place-end.ensures c.loop-place-test.true in
     let sent : IsSentBack c.over-file.result.bytes.now (Record k) = (c.loop-place.invariant.head, record { within = within; bad = admitted.0; before = c.loop-place.invariant.good }) in
-    out b c.from-residual-in-err-admit.result e.0 (Record k) e.1 (e.2 ∙ admitted.1) (subst (λ l. IsSentBack l (Record k)) c.over-file.ensures sent)
+    out b c.from_residual-in_err-admit.result e.0 (Record k) e.1 (e.2 ∙ admitted.1) (subst (λ l. IsSentBack l (Record k)) c.over-file.ensures sent)
 
 pub loop-place-preserved : goal.loop-place-preserved
 loop-place-preserved c =
-    let admitted = c.in-ok-admit.ensures in
+    let admitted = c.in_ok-admit.ensures in
     record {
       head = c.loop-place.invariant.head;
       bits = admitted.1;
@@ -81,4 +81,4 @@ returns c =
     let all : c.loop-place.place ≡ items_in c.over-file.result.bytes.now = omega (arith, c.count-place-end.ensures, c.loop-place-test.false, c.loop-place.auto.place-end) in
     let far : SoFar b (view c.loop-place.plan) (items_in b) =
     subst (λ l. SoFar l (view c.loop-place.plan) (items_in l)) c.over-file.ensures (subst (SoFar c.over-file.result.bytes.now (view c.loop-place.plan)) all c.loop-place.invariant) in
-    read_all b _ _ (view c.loop-place.plan) (view c.forget.new.self) small c.in-ok-sizes.ensures far c.forget.ensures
+    read_all b _ _ (view c.loop-place.plan) (view c.forget.new.self) small c.in_ok-sizes.ensures far c.forget.ensures

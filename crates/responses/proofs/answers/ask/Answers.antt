@@ -6,4 +6,4 @@ use Rattle.responses.proofs.answers.ask.Goals as goal
 pub loop-place-preserved : goal.loop-place-preserved
 loop-place-preserved g c =
     answered_more c.loop-place.place (vec_items c.loop-place.answers) (vec_items c.push.new.self) c.respond.result
-    (chosen _ _ _ _ c.push.ensures.items (ap is_ok c.in-ok-push.was)) c.loop-place.invariant c.respond.ensures.least c.respond.ensures.worst
+    (chosen _ _ _ _ c.push.ensures.items (ap is_ok c.in_ok-push.was)) c.loop-place.invariant c.respond.ensures.least c.respond.ensures.worst

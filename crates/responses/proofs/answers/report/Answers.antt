@@ -10,7 +10,7 @@ loop-at-preserved c =
     let before = string_bytes c.loop-at.text in
     let line = answer_line (at + 1) (get_or all at no_answer) ++ (10 ∷ []) in
     let rest = answer_lines (at + 1 + 1) (drop (at + 1) all) in
-    let written : string_bytes c.writeln.new.self ≡ before ++ line = c.in-ok-writeln.ensures.bytes in
+    let written : string_bytes c.writeln.new.self ≡ before ++ line = c.in_ok-writeln.ensures.bytes in
     let more : answer_lines (at + 1) (drop at all) ≡ line ++ rest = at_drop_more (answer_lines (at + 1)) all at no_answer c.loop-at-test.true in
     ap (λ b. b ++ rest) written ∙ append_assoc before line rest ∙ ap (λ l. before ++ l) (sym more) ∙ c.loop-at.invariant
 

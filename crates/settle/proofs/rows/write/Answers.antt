@@ -13,6 +13,6 @@ loop-at-preserved c =
     let lt : i < length c.loop-at.table = omega arith in (
       below_more _ _
           (λ k h. let ne : k ≢ i = omega arith in rw get_or-set_other (c.loop-at.invariant.0 k h))
-          (rw get_or-set_same (c.row-of.ensures ∙ ap (λ (w : Span). row_for (item_at c.args.items.now i).number w (answer_at c.args.answers.now i)) (sym (span_read c.args.windows.now i _ (omega arith))))),
+          (rw get_or-set_same (c.row_of.ensures ∙ ap (λ (w : Span). row_for (item_at c.args.items.now i).number w (answer_at c.args.answers.now i)) (sym (span_read c.args.windows.now i _ (omega arith))))),
       λ k h. let ne : k ≢ i = omega arith in rw get_or-set_other (c.loop-at.invariant.1 k (omega arith)),
     )

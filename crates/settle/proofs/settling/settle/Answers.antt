@@ -33,28 +33,28 @@ of_plan p bits xs P b x h = subst (λ (cs : List ℕ). P cs (view p).items) b (s
 
 pub steady-requires : goal.steady-requires
 steady-requires g c =
-    let valid = told_valid c.args.plan.now c.bit-times-bits.result.now c.items-items.result.now c.bit-times-bits.ensures c.items-items.ensures in
-    record { valid = valid; empty = front_empty c.empty-windows-windows.result (length c.items-items.result.now) c.empty-windows-windows.ensures valid.size }
+    let valid = told_valid c.args.plan.now c.bit_times-bits.result.now c.items-items.result.now c.bit_times-bits.ensures c.items-items.ensures in
+    record { valid = valid; empty = front_empty c.empty_windows-windows.result (length c.items-items.result.now) c.empty_windows-windows.ensures valid.size }
 
-pub returns-in-err-sweeps : goal.returns-in-err-sweeps
-returns-in-err-sweeps g c =
-    let bits = c.bit-times-bits.result.now in
+pub returns-in_err-sweeps : goal.returns-in_err-sweeps
+returns-in_err-sweeps g c =
+    let bits = c.bit_times-bits.result.now in
     let xs = c.items-items.result.now in
-    let made = c.in-err-sweeps.ensures in
-    let out = err_from_is_err_and c.from-residual.result c.from-residual.ensures.1 in
+    let made = c.in_err-sweeps.ensures in
+    let out = err_from_is_err_and c.from_residual.result c.from_residual.ensures.1 in
     of_plan c.args.plan.now bits xs
-    (λ b x. Settled (g.R.Rule.allows c.args.rule.now) (record { least = g.R.Rule.least c.args.rule.now; worst = g.R.Rule.worst c.args.rule.now }) b x c.args.budget c.args.table.now c.args.table.now c.from-residual.result)
-    c.bit-times-bits.ensures c.items-items.ensures
-    (settled_fault _ _ bits xs c.args.budget c.args.table.now c.in-err-sweeps.field-0.0 c.from-residual.result (out.1 ∙ ap Err out.2) (omega arith, omega arith) (omega arith) made.ends)
+    (λ b x. Settled (g.R.Rule.allows c.args.rule.now) (record { least = g.R.Rule.least c.args.rule.now; worst = g.R.Rule.worst c.args.rule.now }) b x c.args.budget c.args.table.now c.args.table.now c.from_residual.result)
+    c.bit_times-bits.ensures c.items-items.ensures
+    (settled_fault _ _ bits xs c.args.budget c.args.table.now c.in_err-sweeps.field-0.0 c.from_residual.result (out.1 ∙ ap Err out.2) (omega arith, omega arith) (omega arith) made.ends)
 
 pub returns : goal.returns
 returns g c =
-    let bits = c.bit-times-bits.result.now in
+    let bits = c.bit_times-bits.result.now in
     let xs = c.items-items.result.now in
-    let valid = told_valid c.args.plan.now bits xs c.bit-times-bits.ensures c.items-items.ensures in
-    let made = c.in-ok-sweeps.ensures in
+    let valid = told_valid c.args.plan.now bits xs c.bit_times-bits.ensures c.items-items.ensures in
+    let made = c.in_ok-sweeps.ensures in
     of_plan c.args.plan.now bits xs
-    (λ b x. Settled (g.R.Rule.allows c.args.rule.now) (record { least = g.R.Rule.least c.args.rule.now; worst = g.R.Rule.worst c.args.rule.now }) b x c.args.budget c.args.table.now c.write.new.table (Ok c.in-ok-sweeps.sweeps))
-    c.bit-times-bits.ensures c.items-items.ensures
-    (settled_count _ _ bits xs c.args.budget c.in-ok-sweeps.sweeps c.steady.new.windows c.steady.new.answers c.args.table.now c.write.new.table
+    (λ b x. Settled (g.R.Rule.allows c.args.rule.now) (record { least = g.R.Rule.least c.args.rule.now; worst = g.R.Rule.worst c.args.rule.now }) b x c.args.budget c.args.table.now c.write.new.table (Ok c.in_ok-sweeps.sweeps))
+    c.bit_times-bits.ensures c.items-items.ensures
+    (settled_count _ _ bits xs c.args.budget c.in_ok-sweeps.sweeps c.steady.new.windows c.steady.new.answers c.args.table.now c.write.new.table
     (laws g c.args.rule.now) valid (omega arith, omega arith) (omega arith) made.ends made.left (omega arith) c.write.ensures.rows c.write.ensures.rest)

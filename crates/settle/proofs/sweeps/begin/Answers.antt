@@ -34,8 +34,8 @@ returns g c =
     let told = told_empty _ _ xs _ c.requires.empty _ before in
     record {
       first = front_first _ xs c.requires.valid _ c.consult.new.answers told c.lead.new.windows (omega arith) c.lead.ensures;
-      fresh = fresh_after _ _ xs c.args.windows.now c.lead.new.windows c.stale-resources.result c.consult.new.answers (omega (arith, c.requires.chained.few)) (omega (arith, c.requires.chained.few)) before c.stale-resources.ensures;
+      fresh = fresh_after _ _ xs c.args.windows.now c.lead.new.windows c.stale_resources.result c.consult.new.answers (omega (arith, c.requires.chained.few)) (omega (arith, c.requires.chained.few)) before c.stale_resources.ensures;
     }
 
-pub stale-resources-requires : goal.stale-resources-requires
-stale-resources-requires g c = record { few = c.requires.chained.few; resources = few_resources c.args.bits.now c.args.items.now c.requires.valid }
+pub stale_resources-requires : goal.stale_resources-requires
+stale_resources-requires g c = record { few = c.requires.chained.few; resources = few_resources c.args.bits.now c.args.items.now c.requires.valid }

@@ -5,16 +5,16 @@ use Rattle.settle.proofs.sweeps.steady.Goals as goal
 pub begin-stale-requires : goal.begin-stale-requires
 begin-stale-requires g c = record {
   valid = c.requires.valid;
-  based = c.lay-down.ensures.based;
-  chained = chained_from c.args.bits.now c.args.items.now c.requires.valid c.lay-down.new.places c.lay-down.ensures.linked;
+  based = c.lay_down.ensures.based;
+  chained = chained_from c.args.bits.now c.args.items.now c.requires.valid c.lay_down.new.places c.lay_down.ensures.linked;
   empty = c.requires.empty;
 }
 
-pub sweep-all-requires : goal.sweep-all-requires
-sweep-all-requires g c = record {
+pub sweep_all-requires : goal.sweep_all-requires
+sweep_all-requires g c = record {
   valid = c.requires.valid;
-  based = c.lay-down.ensures.based;
-  chained = chained_from c.args.bits.now c.args.items.now c.requires.valid c.lay-down.new.places c.lay-down.ensures.linked;
+  based = c.lay_down.ensures.based;
+  chained = chained_from c.args.bits.now c.args.items.now c.requires.valid c.lay_down.new.places c.lay_down.ensures.linked;
   first = c.begin-stale.ensures.first;
   fresh = c.begin-stale.ensures.fresh;
 }

@@ -52,5 +52,5 @@ loop-made-preserved g c =
 pub returns : goal.returns
 returns g c = record { ends = moving_at _ _ _ c.loop-made.made c.args.budget (omega arith) c.loop-made.invariant.0; left = tt }
 
-pub overflow-add-result-in-Still : goal.overflow-add-result-in-Still
-overflow-add-result-in-Still g c = omega arith
+pub overflow_add-result-in-Still : goal.overflow_add-result-in-Still
+overflow_add-result-in-Still g c = omega arith

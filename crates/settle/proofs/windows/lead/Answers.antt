@@ -13,8 +13,8 @@ loop-at-preserved c =
     let ws = c.loop-at.windows in
     let i = c.loop-at.at in
     let within : i < length xs = c.loop-at-test.true in
-    let others = set_others ws i c.led-at.result in
-    let here : span (spans_of _) i ≡ window_by lead_after xs (spans_of ws) answers i = set_here ws i c.led-at.result (omega (arith, c.requires.chained.few)) ∙ c.led-at.ensures in (
+    let others = set_others ws i c.led_at.result in
+    let here : span (spans_of _) i ≡ window_by lead_after xs (spans_of ws) answers i = set_here ws i c.led_at.result (omega (arith, c.requires.chained.few)) ∙ c.led_at.ensures in (
       length-set _ _ _ ∙ c.loop-at.invariant.0,
       below_more _ _
           (λ k h. others k h ∙ c.loop-at.invariant.1 k h ∙ by_earlier lead_after xs answers k _ _ c.args.links.now c.requires.chained (omega arith) (λ j hj. sym (others j (omega arith))))

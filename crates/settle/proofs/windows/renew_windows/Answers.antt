@@ -9,7 +9,7 @@ pub loop-at-preserved : goal.loop-at-preserved
 loop-at-preserved c =
     let xs = c.args.items.now in
     let i = c.loop-at.at in
-    let new : span_of c.renewed-at.result ≡ window_by after xs (spans_of c.args.windows.now) c.args.answers.now i = cc c.renewed-at.ensures in (
+    let new : span_of c.renewed_at.result ≡ window_by after xs (spans_of c.args.windows.now) c.args.answers.now i = cc c.renewed_at.ensures in (
       length-set _ _ _ ∙ c.loop-at.invariant.0,
       below_more _ _ (λ k h. set_others c.loop-at.next i _ k h ∙ c.loop-at.invariant.1 k h) (set_here c.loop-at.next i _ (omega (arith, c.requires.chained.few)) ∙ new),
     )

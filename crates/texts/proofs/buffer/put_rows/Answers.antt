@@ -9,14 +9,14 @@ use Rattle.texts.proofs.buffer.put_rows.Goals as goal
 pub loop-row-init : goal.loop-row-init
 loop-row-init c = putting_none row_line c.args.rows.now c.args.at c.args.buffer.now
 
-pub put-line-end-requires : goal.put-line-end-requires
-put-line-end-requires c =
+pub put_line-end-requires : goal.put_line-end-requires
+put_line-end-requires c =
     let room = putting_room row_line c.args.rows.now c.args.at c.loop-row.end c.loop-row.row-index (length c.args.buffer.now) c.args.buffer.now c.loop-row.buffer no_row c.loop-row-test.true c.requires c.loop-row.invariant in
-    omega (arith, ap length c.row-line.ensures, room)
+    omega (arith, ap length c.row_line.ensures, room)
 
 pub loop-row-preserved : goal.loop-row-preserved
 loop-row-preserved c =
-    putting_more row_line c.args.rows.now c.args.at c.loop-row.end c.put-line-end.result c.loop-row.row-index c.args.buffer.now c.loop-row.buffer c.put-line-end.new.buffer (text_of c.row-line.result) no_row c.loop-row-test.true (omega (arith, c.requires)) c.loop-row.invariant
+    putting_more row_line c.args.rows.now c.args.at c.loop-row.end c.put_line-end.result c.loop-row.row-index c.args.buffer.now c.loop-row.buffer c.put_line-end.new.buffer (text_of c.row_line.result) no_row c.loop-row-test.true (omega (arith, c.requires)) c.loop-row.invariant
     (search rules) (omega arith) (search rules)
 
 pub returns : goal.returns

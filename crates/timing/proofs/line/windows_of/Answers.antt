@@ -16,12 +16,12 @@ pub returns-in-Settled : goal.returns-in-Settled
 returns-in-Settled c = record {
   plan = view c.in-Ok.plan;
   reads = c.in-Ok.ensures;
-  settles = settles c.line-rule.result.first.ticks _ _ _ _ c.line-rule.ensures c.in-Settled.is c.in-ok-sweeps.ensures.answer;
+  settles = settles c.line_rule.result.first.ticks _ _ _ _ c.line_rule.ensures c.in-Settled.is c.in_ok-sweeps.ensures.answer;
 }
 
 pub returns-in-Unsettled : goal.returns-in-Unsettled
 returns-in-Unsettled c = record {
   plan = view c.in-Ok.plan;
   reads = c.in-Ok.ensures;
-  settles = settles c.line-rule.result.first.ticks _ _ _ _ c.line-rule.ensures c.in-Unsettled.is c.in-ok-sweeps.ensures.answer;
+  settles = settles c.line_rule.result.first.ticks _ _ _ _ c.line_rule.ensures c.in-Unsettled.is c.in_ok-sweeps.ensures.answer;
 }

@@ -12,9 +12,9 @@ loop-row-init g c = shown_none row_line c.args.self.now.rows.now g.W.Write.write
 pub loop-row-preserved : goal.loop-row-preserved
 loop-row-preserved g c =
     shown_more row_line c.args.self.now.rows.now g.W.Write.write_str_gives c.write.new.self c.loop-row.f c.write-in-loop-row.new.self c.loop-row.row-index no_row c.loop-row-test.true c.loop-row.invariant
-    (λ plain. has_written_of_eq g.W.Write.write_str_gives c.loop-row.f _ _ c.write-in-loop-row.new.self (search rules) (c.in-ok-write-2.ensures.shows plain refl))
+    (λ plain. has_written_of_eq g.W.Write.write_str_gives c.loop-row.f _ _ c.write-in-loop-row.new.self (search rules) (c.in_ok-write-2.ensures.writes plain refl))
 
 pub returns-clause-writes : goal.returns-clause-writes
 returns-clause-writes g c = λ plain ok.
     shown_all row_line c.args.self.now.rows.now g.W.Write.write_str_gives (sweeps_line c.args.self.now.sweeps) c.args.f.now c.write.new.self c.loop-row.f c.loop-row.row-index c.loop-row-test.false
-    (has_written_of_eq g.W.Write.write_str_gives c.args.f.now _ _ c.write.new.self (search rules) (c.in-ok-write.ensures.shows plain refl)) c.loop-row.invariant
+    (has_written_of_eq g.W.Write.write_str_gives c.args.f.now _ _ c.write.new.self (search rules) (c.in_ok-write.ensures.writes plain refl)) c.loop-row.invariant
