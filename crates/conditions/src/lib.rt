@@ -1,5 +1,6 @@
 // The conditions on which a call is refused, looked at one after the other.
 #![tactic(auto)]
+
 ghost use Rattle.std.specs.Prelude.{◌≡◌};
 ghost use Rattle.items.specs.Refusals.{as_result};
 ghost use Rattle.items.specs.Conditions.{outside, some_above, bit_time_of, wrong_kind, work_outside, bad_predecessor, bad_timing, first_met, open_refusal, place_refusal, withdraw_refusal, retime_checks};

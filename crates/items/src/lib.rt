@@ -1,6 +1,7 @@
 // What a plan is made of: items with their work, the refusals of a plan's calls, the entries of a journal.
 // The specs say what the calls of a plan mean; `theorems` proves what holds of them over every list of visits.
 #![tactic(auto)]
+
 ghost use Rattle.std.specs.Prelude.{◌≡◌};
 ghost use Rattle.items.specs.Items.{reworked};
 ghost use Rattle.items.specs.Refusals.{number_of};

@@ -1,9 +1,8 @@
 -- Numbers as bytes, and parts of a list of bytes.
-use Rattle.std.proofs.Common.{◌≡◌, ℕ, zero, suc, ◌+◌, ◌-◌, ◌*◌, ◌/◌, ◌%◌, ◌^◌, ◌<◌, ◌≤◌, List, [], ◌∷◌, ◌++◌, length, get_or, take, drop, sym, refl, ap, ◌∙◌, subst, mod-eq_of_lt, mul_comm, div-lt_iff_lt-mul, zero-add, arith, lit<, length-append, length-drop, length-take-le, get_or-drop, get_or-take, take-take, drop-drop, take_at, take-add}
+use Rattle.std.proofs.Common.{◌≡◌, ℕ, zero, suc, ◌+◌, ◌-◌, ◌*◌, ◌/◌, ◌%◌, ◌^◌, ◌<◌, ◌≤◌, List, [], ◌∷◌, ◌++◌, length, get_or, take, drop, sym, refl, ap, ◌∙◌, subst, mod-eq_of_lt, mul_comm, div-lt_iff_lt-mul, zero-add, arith, lit<, length-drop, length-take-le, get_or-drop, get_or-take, take-take, drop-drop, take_at, take-add}
 use native.Mathlib.Nat.{pow-succ', mod-add-div, add-mul-mod_self_left, add-mul-div_left, div-eq_of_lt}
 use lib.Seq.{drop-append-add, drop-append-le, take-append-le}
 use Rattle.std.proofs.lemmas.List.{drop-take, drop_more}
-use Rattle.std.specs.List.{flat_map, range_with_len}
 use Rattle.layout.specs.Bytes.{laid, value, part, word}
 use Rattle.layout.specs.Stands.{Bytes}
 

@@ -1,23 +1,21 @@
 -- What a reader finds in the file of a plan: just the plan.
-use Rattle.std.proofs.Common.{◌≡◌, ℕ, zero, suc, ◌+◌, ◌*◌, ◌^◌, ◌<◌, ◌≤◌, Bool, true, false, cond, not, ◌&&◌, ◌||◌, eqb, ltb, leb, List, [], ◌∷◌, ◌++◌, map, length, get_or, take, is_some, None, Option, sym, refl, ap, ◌∙◌, subst, ⊎_elim, arith, length-append}
+use Rattle.std.proofs.Common.{◌≡◌, ℕ, zero, suc, ◌+◌, ◌*◌, ◌^◌, ◌<◌, ◌≤◌, false, not, ◌&&◌, eqb, ltb, leb, List, ◌++◌, length, take, is_some, None, sym, refl, ap, ◌∙◌, subst, ⊎_elim, arith, length-append}
 use Rattle.std.proofs.lemmas.List.FromFn.{fill_by_all}
 use Rattle.std.proofs.lemmas.Bool.{or_from, and_left, and_right, not_from_true, not_from_false, le-ltb, lt-leb, eq-eqb, ne_eqb, cond-false, cases_eq}
-use Rattle.std.specs.List.{range_with_len, flat_map}
+use Rattle.std.specs.List.{flat_map}
 use Rattle.items.specs.declared.Item.{Item}
 use Rattle.items.specs.declared.Work.{Work}
 use Rattle.items.specs.declared.Work.TheVariants.{Task, Frame}
-use Rattle.items.specs.declared.Refusal.{Refusal}
 use Rattle.items.specs.Items.{no_item, item_at}
 use Rattle.items.specs.Conditions.{bit_time_of, outside, some_above, place_refusal}
 use Rattle.items.specs.Valid.{Valid, ValidItem, ValidWork}
 use Rattle.items.proofs.Accepted.{not_outside, not_above}
 use Rattle.items.proofs.Members.{in_at, members}
 use Rattle.items.proofs.Rebuilt.{accepted_next}
-use Rattle.layout.specs.declared.FileFault.{FileFault}
 use Rattle.layout.specs.Bytes.{laid, part, word}
 use Rattle.layout.specs.Format.{first_word, second_word, first_record, second_record, file_of, size_of}
 use Rattle.layout.specs.Reading.{resources_in, items_in, bits_of, first_at, second_at, resource_in, on_bus, work_by, item_in, items_of, head_fault, descends, has_spare, bad_record}
-use Rattle.layout.proofs.Bytes.{length_laid, part_part, word_of, part_front, part_behind, part_within}
+use Rattle.layout.proofs.Bytes.{part_part, word_of, part_front, part_behind, part_within}
 use Rattle.layout.proofs.Arrays.{length_joined, part_joined}
 
 -- the words of work say it

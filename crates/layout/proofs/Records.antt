@@ -1,5 +1,5 @@
 -- Reading the records of a file one after the other.
-use Rattle.std.proofs.Common.{◌≡◌, ℕ, zero, suc, ◌+◌, ◌<◌, ◌≤◌, Bool, true, false, cond, not, ◌||◌, eqb, ltb, leb, List, [], ◌∷◌, ◌++◌, length, take, is_some, is_err, Some, None, Ok, Err, Option, Result, sym, refl, ap, ◌∙◌, subst, ⊎_elim, arith, length-take-le, get_or-take}
+use Rattle.std.proofs.Common.{◌≡◌, ℕ, zero, suc, ◌+◌, ◌<◌, ◌≤◌, Bool, true, false, cond, not, ◌||◌, eqb, ltb, List, [], ◌∷◌, ◌++◌, length, take, is_some, is_err, Some, None, Option, Result, sym, refl, ap, ◌∙◌, subst, ⊎_elim, arith, length-take-le, get_or-take}
 use Rattle.std.proofs.lemmas.List.FromFn.{length-map-range_with_len, get_or-map-range_with_len}
 use Rattle.std.proofs.lemmas.List.{take_more, take_all}
 use Rattle.std.proofs.lemmas.Bool.{or_left, or_right, or_from, or_parts, leb-false, le-ltb, cond-true, cond-false, cases_eq, cases_Bool, both_ways, eq-eqb, not_from_true, true≢false, false≢true}
@@ -11,14 +11,12 @@ use Rattle.items.specs.Conditions.{outside, some_above, open_refusal, place_refu
 use Rattle.items.specs.Journal.{State, fresh, made, visited}
 use Rattle.items.specs.Ledger.{edit, placed}
 use Rattle.items.specs.Refusals.{as_result}
-use Rattle.items.specs.Valid.{Valid}
 use Rattle.items.proofs.Accepted.{not_outside, not_above, openable}
 use Rattle.items.proofs.Rebuilt.{with_last}
 use Rattle.layout.specs.declared.FileFault.{FileFault}
 use Rattle.layout.specs.declared.FileFault.TheVariants.{Length, Sizes, BitTime, Record}
-use Rattle.layout.specs.Bytes.{word}
 use Rattle.layout.specs.Format.{file_of, size_of}
-use Rattle.layout.specs.Reading.{resources_in, items_in, bits_of, item_in, items_of, head_fault, Fitted, descends, has_spare, bad_record, FirstBad, IsSentBack, ReadsAs, NoFile}
+use Rattle.layout.specs.Reading.{resources_in, items_in, bits_of, item_in, items_of, head_fault, Fitted, descends, has_spare, bad_record, IsSentBack, ReadsAs, NoFile}
 use Rattle.layout.specs.Stands.{Bytes}
 use Rattle.layout.proofs.Bytes.{length_part}
 use Rattle.layout.proofs.Laid.{bits_is, items_are, head_good, none_bad}

@@ -1,10 +1,9 @@
 -- A file in which nothing is wrong is the file of the plan that a reader finds in it.
-use Rattle.std.proofs.Common.{◌≡◌, ℕ, ◌+◌, ◌*◌, ◌<◌, ◌≤◌, Bool, true, false, cond, not, ◌&&◌, ◌||◌, eqb, ltb, List, ◌++◌, map, length, get_or, take, drop, Some, None, Option, sym, refl, ap, ◌∙◌, subst, ⊎_elim, arith}
+use Rattle.std.proofs.Common.{◌≡◌, ℕ, ◌+◌, ◌*◌, ◌<◌, ◌≤◌, Bool, true, false, cond, not, ◌&&◌, ◌||◌, eqb, ltb, List, ◌++◌, length, Some, None, Option, sym, refl, ap, ◌∙◌, arith}
 use Rattle.std.proofs.lemmas.List.FromFn.{length-map-range_with_len}
 use Rattle.std.proofs.lemmas.List.{take_all}
-use Rattle.std.proofs.lemmas.Bool.{or_parts, and_cases, not-false, ltb-false, eqb-true, both_ways}
+use Rattle.std.proofs.lemmas.Bool.{or_parts, not-false, ltb-false, eqb-true}
 use Rattle.std.specs.List.{range_with_len, flat_map}
-use Rattle.items.specs.declared.Item.{Item}
 use Rattle.items.specs.Conditions.{outside, some_above}
 use Rattle.layout.specs.declared.FileFault.{FileFault}
 use Rattle.layout.specs.declared.FileFault.TheVariants.{Length, Sizes, BitTime}

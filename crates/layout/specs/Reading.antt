@@ -5,7 +5,7 @@ use Rattle.items.specs.declared.Item.{Item}
 use Rattle.items.specs.declared.Work.{Work}
 use Rattle.items.specs.declared.Work.TheVariants.{Task, Frame}
 use Rattle.items.specs.Conditions.{outside, some_above, bit_time_of, place_refusal}
-use Rattle.items.specs.Journal.{State, fresh}
+use Rattle.items.specs.Journal.{State}
 use Rattle.items.specs.Valid.{Valid}
 use Rattle.layout.specs.declared.FileFault.{FileFault}
 use Rattle.layout.specs.declared.FileFault.TheVariants.{Length, Sizes, BitTime, Record}

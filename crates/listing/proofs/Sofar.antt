@@ -1,5 +1,5 @@
 -- What the lines so far said, and one line more.
-use Rattle.std.proofs.Common.{◌≡◌, ℕ, ◌⊎◌, List, [], ◌∷◌, ◌++◌, length, Some, None, Option, sym, refl, ap, ◌∙◌, subst, inl, inr, append_assoc, append-nil}
+use Rattle.std.proofs.Common.{◌≡◌, ℕ, ◌⊎◌, List, [], ◌∷◌, ◌++◌, length, Some, None, Option, sym, refl, ◌∙◌, subst, inl, inr, append_assoc, append-nil}
 use Rattle.std.specs.Str.Lines as lines
 use Rattle.service.specs.declared.Record.{Record}
 use Rattle.words.specs.Spoken.{PassedOver}

@@ -3,7 +3,7 @@ use Rattle.std.proofs.Common.{◌≡◌, ℕ, zero, suc, ◌+◌, ◌-◌, ◌*�
 use native.Mathlib.Nat.{lt-mul-div-succ, le_of_mul-le-mul_left, div-le_of_le-mul}
 use Rattle.std.proofs.lemmas.Bool.{ltb-true}
 use Rattle.service.specs.declared.Record.{Record}
-use Rattle.service.specs.Rows.{row, IsRow, Fit}
+use Rattle.service.specs.Rows.{row, Fit}
 use Rattle.bounds.specs.Numbers.{ceiling, Under}
 use Rattle.bounds.specs.Equations.{asks, summed, above}
 use Rattle.bounds.proofs.Solutions.{ceiling_covers}

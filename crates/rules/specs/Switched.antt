@@ -1,10 +1,10 @@
 -- A switch keeps the laws that the rule below it keeps.
-use Rattle.std.specs.Prelude.{◌≡◌, ℕ, ◌+◌, ◌<◌, ◌≤◌, Bool, true, false, cond, ◌⊎◌, List, length, Some, None, Option, refl}
-use Rattle.std.proofs.Common.{sym, ap, subst, ◌∙◌, inl, inr, arith}
+use Rattle.std.specs.Prelude.{◌≡◌, ℕ, ◌+◌, ◌<◌, ◌≤◌, Bool, true, false, cond, List, length, Some, None, Option, refl}
+use Rattle.std.proofs.Common.{sym, subst, ◌∙◌, arith}
 use Rattle.service.specs.declared.Record.{Record}
 use Rattle.std.proofs.lemmas.Bool.{both_ways, cond-true}
 use Rattle.service.specs.Traces.{Trace, Done, Orderly}
-use Rattle.service.specs.Rows.{row, IsRow, Fit, Rows, Looser}
+use Rattle.service.specs.Rows.{row, IsRow, Fit}
 use Rattle.service.specs.Laws.{Bounded, Patient, Rising, Ranged, Crowded, Lawful, closes}
 use Rattle.service.specs.Answers.{admitted}
 use Rattle.service.proofs.Checks.{rows_since, Admits, admit}

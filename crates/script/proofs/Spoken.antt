@@ -1,5 +1,5 @@
 -- What the words after the first say, said of the whole line.
-use Rattle.std.proofs.Common.{◌≡◌, ℕ, List, [], ◌∷◌, length, get_or, Ok, Err, codes, Result, sym, refl, ap, ◌∙◌, inr, arith, Bor, MatchResult}
+use Rattle.std.proofs.Common.{◌≡◌, ℕ, List, [], ◌∷◌, length, get_or, codes, Result, sym, refl, ap, ◌∙◌, inr, arith, Bor, MatchResult}
 use Rattle.std.proofs.lemmas.Result.{MatchResult-weaker}
 use Rattle.words.specs.Spoken.{Words, texts}
 use Rattle.words.proofs.Spoken.{no_word, text_at}

@@ -1,5 +1,5 @@
 -- The front of a written table holds the windows of the items.
-use Rattle.std.proofs.Common.{◌≡◌, ℕ, ◌+◌, ◌<◌, ◌≤◌, List, ◌++◌, length, get_or, take, sym, refl, ap, ◌∙◌, subst, arith, length-append, length-take, get_or-take}
+use Rattle.std.proofs.Common.{◌≡◌, ℕ, ◌+◌, ◌<◌, ◌≤◌, List, ◌++◌, length, take, sym, ap, ◌∙◌, subst, arith, length-append, length-take, get_or-take}
 use Rattle.std.proofs.lemmas.List.{get_or_append_left}
 use Rattle.service.specs.declared.Record.{Record}
 use Rattle.service.specs.Traces.{Trace, Done}
@@ -7,10 +7,10 @@ use Rattle.items.specs.declared.Item.{Item}
 use Rattle.items.specs.Items.{item_at}
 use Rattle.tables.specs.Demands.{Span}
 use Rattle.tables.specs.Tables.{Numbers}
-use Rattle.tables.specs.Runs.{Allowed, Kept}
+use Rattle.tables.specs.Runs.{Kept}
 use Rattle.tables.specs.Stands.{TrueWindows}
 use Rattle.settle.specs.declared.WindowRow.{WindowRow}
-use Rattle.settle.specs.Rows.{no_row, row_at, release_of, finish_of}
+use Rattle.settle.specs.Rows.{row_at, release_of, finish_of}
 use Rattle.settle.specs.Settled.{Written}
 use Rattle.visits.specs.Answers.{Tabled}
 

@@ -9,7 +9,6 @@ use Rattle.tables.specs.Demands.{Span, span}
 use Rattle.tables.specs.Tables.{Numbers, table}
 use Rattle.tables.specs.Stands.{TrueWindows}
 use Rattle.settle.specs.declared.WindowRow.{WindowRow}
-use Rattle.settle.specs.declared.Fault.{Fault}
 use Rattle.settle.specs.declared.Fault.TheVariants.{Budget, TableShort, Unbounded, Unsettled as Unsteady}
 use Rattle.settle.specs.Rows.{row_at, release_of, finish_of}
 use Rattle.settle.specs.Settled.{Ends, Budgeted}

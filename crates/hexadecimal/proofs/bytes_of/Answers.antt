@@ -1,4 +1,4 @@
-use Rattle.std.proofs.Common.{◌≡◌, ℕ, ◌≤◌, List, length, Some, None, vec_items, Option, refl, ap, ◌∙◌, arith, rules}
+use Rattle.std.proofs.Common.{◌≡◌, ◌≤◌, length, None, vec_items, ap, ◌∙◌, rules}
 use Rattle.std.specs.Option.{option_map}
 use Rattle.hexadecimal.specs.Digits.{unhex}
 use Rattle.hexadecimal.proofs.Pairs.{read_more, read_none, read_all, read_odd, read_back}

@@ -1,5 +1,4 @@
-use Rattle.std.proofs.Common.{◌≡◌, sym, ap, ◌∙◌}
-use Rattle.layout.specs.Format.{file_of, size_of}
+use Rattle.std.proofs.Common.{sym, ap, ◌∙◌}
 use Rattle.layout.specs.Reading.{bits_of, items_of}
 use Rattle.layout.proofs.Laid.{bits_is, items_are, head_good, none_bad}
 use Rattle.layout.proofs.Whole.{good_head, file_again}

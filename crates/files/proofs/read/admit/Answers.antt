@@ -1,9 +1,8 @@
 -- Each way out of the tests on one record.
-use Rattle.std.proofs.Common.{◌≡◌, ◌+◌, take, None, sym, refl, ap, ◌∙◌}
+use Rattle.std.proofs.Common.{◌≡◌, None, sym, refl, ◌∙◌}
 use Rattle.items.specs.Conditions.{place_refusal}
 use Rattle.items.specs.Items.{with_item}
 use Rattle.plan.specs.Views.{view}
-use Rattle.layout.specs.Reading.{bits_of, items_of, item_in}
 use Rattle.layout.proofs.Records.{bad_refused, bad_spare, good_record, taken_more, refused_by, accepted_by, placed_in}
 use Rattle.files.proofs.read.admit.Goals as goal
 

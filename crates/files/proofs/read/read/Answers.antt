@@ -1,14 +1,14 @@
 -- The records are read one after the other; what is sent back is no plan's file, and what is not is the plan's.
-use Rattle.std.proofs.Common.{◌≡◌, ℕ, ◌+◌, ◌<◌, ◌≤◌, List, take, Some, None, Err, Result, sym, refl, ap, ◌∙◌, subst, arith, below_none, below_more, MatchResult}
+use Rattle.std.proofs.Common.{◌≡◌, ℕ, ◌<◌, List, Some, None, Err, Result, sym, ap, ◌∙◌, subst, arith, below_none, below_more, MatchResult}
 use Rattle.items.specs.Journal.{State}
 use Rattle.plan.specs.declared.Plan.{Plan}
 use Rattle.layout.specs.declared.FileFault.{FileFault}
 use Rattle.layout.specs.declared.FileFault.TheVariants.{BitTime, Record}
-use Rattle.layout.specs.Reading.{ReadsAs, IsSentBack, NoFile, bits_of, items_of}
+use Rattle.layout.specs.Reading.{ReadsAs, IsSentBack, NoFile, bits_of}
 use Rattle.std.proofs.lemmas.Result.{err_from_is_err_and}
 use Rattle.items.specs.Conditions.{open_refusal}
 use Rattle.plan.specs.Views.{view}
-use Rattle.layout.specs.Reading.{Fitted, items_in, head_fault}
+use Rattle.layout.specs.Reading.{Fitted, items_in}
 use Rattle.layout.specs.Stands.{Bytes}
 use Rattle.layout.proofs.Records.{SoFar, head_sent, head_shut, head_opens, no_file, read_all}
 use Rattle.files.proofs.read.read.Goals as goal

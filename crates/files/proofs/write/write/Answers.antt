@@ -1,7 +1,5 @@
 -- The pieces have room one behind the other, and make up the file.
-use Rattle.std.proofs.Common.{◌≡◌, ◌+◌, ◌*◌, ◌≤◌, length, sym, ap, ◌∙◌, subst, arith}
-use Rattle.items.specs.declared.Item.{Item}
-use Rattle.items.specs.Items.{item_at}
+use Rattle.std.proofs.Common.{◌≡◌, ◌≤◌, length, sym, ◌∙◌, subst, arith}
 use Rattle.items.specs.Valid.{Valid}
 use Rattle.plan.specs.Views.{view}
 use Rattle.plan.proofs.Kept.{plan_valid}

@@ -1,7 +1,7 @@
 use Rattle.std.proofs.Common.{◌≡◌, ℕ, ◌+◌, false, cond, eqb, None, Option, sym, ap, ◌∙◌, arith}
 use Rattle.std.proofs.lemmas.Bool.{ne_eqb}
 use Rattle.service.specs.declared.Record.{Record}
-use Rattle.service.specs.Rows.{row, record_of}
+use Rattle.service.specs.Rows.{row}
 use Rattle.bounds.specs.Numbers.{solution}
 use Rattle.bounds.specs.Equations.{above, longest, fitting, plus}
 use Rattle.rules.proofs.bus.worst_at.Goals as goal

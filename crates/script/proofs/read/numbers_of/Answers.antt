@@ -1,4 +1,4 @@
-use Rattle.std.proofs.Common.{◌≡◌, ◌+◌, ◌<◌, length, arith, length-set}
+use Rattle.std.proofs.Common.{◌+◌, ◌<◌, length, arith, length-set}
 use Rattle.script.proofs.Reading.{handed, one_more, misread_at}
 use Rattle.script.proofs.read.numbers_of.Goals as goal
 

@@ -1,4 +1,4 @@
-use Rattle.std.proofs.Common.{◌≡◌, ◌+◌, sym, ◌∙◌, arith, lit<}
+use Rattle.std.proofs.Common.{◌+◌, sym, ◌∙◌, arith, lit<}
 use Rattle.words.proofs.Spoken.{text_at}
 use Rattle.script.proofs.Reading.{misread, moved}
 use Rattle.script.proofs.read.work_of.Goals as goal

@@ -1,4 +1,4 @@
-use Rattle.std.proofs.Common.{◌≡◌, ℕ, ◌*◌, ◌/◌, ◌≤◌, div-le_self, arith}
+use Rattle.std.proofs.Common.{◌*◌, div-le_self, arith}
 use Rattle.rules.proofs.demand.sums.steepness.Goals as goal
 
 pub returns : goal.returns

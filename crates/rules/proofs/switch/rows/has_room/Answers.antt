@@ -1,4 +1,4 @@
-use Rattle.std.proofs.Common.{ℕ, ◌+◌, ◌*◌, ◌≤◌, sym, arith, below_more}
+use Rattle.std.proofs.Common.{◌+◌, ◌*◌, ◌≤◌, sym, arith, below_more}
 use Rattle.service.specs.Rows.{row}
 use Rattle.rules.specs.Longer.{room_from, no_room}
 use Rattle.rules.proofs.switch.rows.has_room.Goals as goal

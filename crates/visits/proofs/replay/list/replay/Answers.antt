@@ -1,7 +1,7 @@
-use Rattle.std.proofs.Common.{◌≡◌, ℕ, length, vec_items, sym, ap, ◌∙◌, arith}
+use Rattle.std.proofs.Common.{◌≡◌, ℕ, length, vec_items, arith}
 use Rattle.plan.specs.Views.{view}
 use Rattle.plan.proofs.Kept.{plan_kept}
-use Rattle.visits.proofs.Following.{Upto, told_at, upto_none, upto_more, upto_all}
+use Rattle.visits.proofs.Following.{told_at, upto_none, upto_more, upto_all}
 use Rattle.visits.proofs.replay.list.replay.Goals as goal
 
 pub loop-told-init : goal.loop-told-init

@@ -1,6 +1,6 @@
 use Rattle.std.proofs.Common.{◌≡◌, ℕ, ◌+◌, ◌-◌, ◌*◌, ◌/◌, ◌<◌, ◌≤◌, arith}
 use Rattle.service.proofs.Checks.{rows_since}
-use Rattle.rules.specs.Demands.{demanded, slopes, Full}
+use Rattle.rules.specs.Demands.{demanded, Full}
 use Rattle.rules.proofs.Slopes.{slope_under, full_slopes, full_beyond}
 use Rattle.rules.proofs.demand.sums.DemandStep.leap.Goals as goal
 
