@@ -99,11 +99,14 @@ module _ (bits : List ℕ) (xs : List Item) (valid : Valid bits xs) where
         ∙ part_joined second_record 16 (λ y. refl) xs no_item k within
 
     -- a word of a record, by its place there
+    word_is : (from size : ℕ) (bytes : List ℕ) → part from size b ≡ bytes → (width j m : ℕ) → j + width ≤ size → m < 256 ^ width → part j width bytes ≡ laid width m → word width b (from + j) ≡ m
+    word_is from size bytes there width j m inside fits is = word_of b (from + j) width m fits (sym (part_part b from size j width inside) ∙ ap (part j width) there ∙ is)
+
     short_is : (j m : ℕ) → j + 2 ≤ 8 → m < 256 ^ 2 → part j 2 (first_record x) ≡ laid 2 m → word 2 b (first_at b k + j) ≡ m
-    short_is j m inside fits is = word_of b (first_at b k + j) 2 m fits (sym (part_part b (first_at b k) 8 j 2 inside) ∙ ap (part j 2) first_is ∙ is)
+    short_is = word_is (first_at b k) 8 (first_record x) first_is 2
 
     long_is : (j m : ℕ) → j + 4 ≤ 16 → m < 256 ^ 4 → part j 4 (second_record x) ≡ laid 4 m → word 4 b (second_at b k + j) ≡ m
-    long_is j m inside fits is = word_of b (second_at b k + j) 4 m fits (sym (part_part b (second_at b k) 16 j 4 inside) ∙ ap (part j 4) second_is ∙ is)
+    long_is = word_is (second_at b k) 16 (second_record x) second_is 4
 
     number_is : word 2 b (first_at b k) ≡ x.number
     number_is =

@@ -49,25 +49,26 @@ second_again true first second none = sym (eqb-true second 0 (not-false (eqb sec
 second_again false first second none = refl
 
 module _ (b : List ℕ) (small : Bytes b) (whole : length b ≡ size_of (resources_in b) (items_in b)) where
+  -- four words of one width in a row
+  four_words : (width at second third fourth : ℕ) → second ≡ at + width → third ≡ second + width → fourth ≡ third + width → fourth + width ≤ length b
+      → part at (width + (width + (width + width))) b ≡ laid width (word width b at) ++ (laid width (word width b second) ++ (laid width (word width b third) ++ laid width (word width b fourth)))
+  four_words width at second third fourth next then last within =
+      part_add b at width (width + (width + width))
+      ∙ ap (λ l. part at width b ++ l) (ap (λ m. part m (width + (width + width)) b) (sym next) ∙ part_add b second width (width + width))
+      ∙ ap (λ l. part at width b ++ (part second width b ++ l)) (ap (λ m. part m (width + width) b) (sym then) ∙ part_add b third width width)
+      ∙ ap (λ m. part at width b ++ (part second width b ++ (part third width b ++ part m width b))) (sym last)
+      ∙ (λ i. part_word b at width small (omega arith) i ++ (part_word b second width small (omega arith) i ++ (part_word b third width small (omega arith) i ++ part_word b fourth width small (omega arith) i)))
+
   module _ (k : ℕ) (within : k < items_in b) where
-    -- four words in a row
     first_again_at : part (first_at b k) 8 b ≡ first_record (item_in b k)
     first_again_at =
         let at = first_at b k in
-        let there : at + 2 + 2 ≡ at + 4 = omega arith in
-        let last : at + 4 + 2 ≡ at + 6 = omega arith in
-        part_add b at 2 6
-        ∙ ap (λ l. part at 2 b ++ l) (part_add b (at + 2) 2 4 ∙ ap (λ l. part (at + 2) 2 b ++ l) (ap (λ m. part m 4 b) there ∙ part_add b (at + 4) 2 2 ∙ ap (λ m. part (at + 4) 2 b ++ part m 2 b) last))
-        ∙ (λ i. part_word b at 2 small (omega arith) i ++ (part_word b (at + 2) 2 small (omega arith) i ++ (part_word b (at + 4) 2 small (omega arith) i ++ part_word b (at + 6) 2 small (omega arith) i)))
+        four_words 2 at (at + 2) (at + 4) (at + 6) refl (omega arith) (omega arith) (omega arith)
 
     second_again_at : has_spare b k ≡ false → part (second_at b k) 16 b ≡ second_record (item_in b k)
     second_again_at none =
         let at = second_at b k in
-        let there : at + 4 + 4 ≡ at + 8 = omega arith in
-        let last : at + 8 + 4 ≡ at + 12 = omega arith in
-        part_add b at 4 12
-        ∙ ap (λ l. part at 4 b ++ l) (part_add b (at + 4) 4 8 ∙ ap (λ l. part (at + 4) 4 b ++ l) (ap (λ m. part m 8 b) there ∙ part_add b (at + 8) 4 4 ∙ ap (λ m. part (at + 8) 4 b ++ part m 4 b) last))
-        ∙ (λ i. part_word b at 4 small (omega arith) i ++ (part_word b (at + 4) 4 small (omega arith) i ++ (part_word b (at + 8) 4 small (omega arith) i ++ part_word b (at + 12) 4 small (omega arith) i)))
+        four_words 4 at (at + 4) (at + 8) (at + 12) refl (omega arith) (omega arith) (omega arith)
         ∙ sym (λ i. laid 4 (first_again (on_bus b k) (word 4 b at) (word 4 b (at + 4)) i) ++ (laid 4 (second_again (on_bus b k) (word 4 b at) (word 4 b (at + 4)) none i) ++ (laid 4 (word 4 b (at + 8)) ++ laid 4 (word 4 b (at + 12)))))
 
   -- the whole file

@@ -14,7 +14,7 @@ use Rattle.tables.specs.Stands.{Lawful}
 use Rattle.tables.proofs.Chains.{Link, head_or_link, no_head}
 use Rattle.tables.proofs.Rowed.{rows, place_below}
 use Rattle.tables.proofs.Ranges.{rows_in_range}
-use Rattle.tables.proofs.Swept.{lead_head, lead_link}
+use Rattle.tables.proofs.Swept.{lead_none, lead_next}
 use Rattle.tables.proofs.Swept as tables
 use Rattle.consult.specs.declared.window.Window.{Window}
 use Rattle.settle.specs.Answers.{answer_at}
@@ -44,30 +44,6 @@ module _ (bits : List ℕ) (xs : List Item) (valid : Valid bits xs) where
       (head_or_link bits xs valid k h)
 
   module _ (rule : Numbers) where
-    lead_none : (n k : ℕ) → (item_at xs k).predecessor ≡ 0 → lead_within rule bits xs n k ≡ 0
-    lead_none zero k z = refl
-    lead_none (suc n) k z = lead_head rule bits xs valid n k z
-
-    lead_fuel : (n m k : ℕ) → k < n → k < m → k < length xs → lead_within rule bits xs n k ≡ lead_within rule bits xs m k
-    lead_fuel zero m k ln lm h = absurd (not-suc-le-zero ln)
-    lead_fuel (suc n) zero k ln lm h = absurd (not-suc-le-zero lm)
-    lead_fuel (suc n) (suc m) k ln lm h =
-        ⊎_elim
-        (λ z. lead_head rule bits xs valid n k z ∙ sym (lead_head rule bits xs valid m k z))
-        (λ l.
-        let same = lead_fuel n m l.at (omega (arith, l.earlier)) (omega (arith, l.earlier)) l.below in
-        let left = lead_link rule bits xs valid n k l in
-        let right = lead_link rule bits xs valid m k l in
-        omega arith)
-        (head_or_link bits xs valid k h)
-
-    lead_next : (n k : ℕ) → k < n → k < length xs → (l : Link xs k) → lead_within rule bits xs n k ≡ lead rule bits xs l.at + least_at rule bits xs (blank rule bits xs) l.at
-    lead_next zero k lt h l = absurd (not-suc-le-zero lt)
-    lead_next (suc n) k lt h l =
-        let step = lead_link rule bits xs valid n k l in
-        let same = lead_fuel n (length xs) l.at (omega (arith, l.earlier)) l.below l.below in
-        omega arith
-
     -- the leasts of the empty windows are in range
     pub least_high : (allows : ℕ → List Record → Trace → Type 0) → Lawful allows rule → (k : ℕ) → k < length xs → least_at rule bits xs (blank rule bits xs) k ≤ 20000000
     least_high allows laws k h =
@@ -90,12 +66,12 @@ module _ (bits : List ℕ) (xs : List Item) (valid : Valid bits xs) where
       led_opens zero k lt h = absurd (not-suc-le-zero lt)
       led_opens (suc n) k lt h =
           ⊎_elim
-          (λ z. ap (λ (w : Span). w.from) (led_head k h z) ∙ sym (lead_none (length xs) k z))
+          (λ z. ap (λ (w : Span). w.from) (led_head k h z) ∙ sym (lead_none rule bits xs valid (length xs) k z))
           (λ l.
           let from = ap (λ (w : Span). w.from) (led_link k h l) in
           let before = led_opens n l.at (omega (arith, l.earlier)) l.below in
           let least = told.least l.at l.below in
-          let step = lead_next (length xs) k h h l in
+          let step = lead_next rule bits xs valid (length xs) k h h l in
           omega arith)
           (head_or_link bits xs valid k h)
 

@@ -15,7 +15,7 @@ use Rattle.tables.specs.Tables.{Numbers, least_at, worst_at, AllBounded, blank, 
 use Rattle.tables.specs.Stands.{Lawful, Reached, InRange}
 use Rattle.tables.proofs.Chains.{Link, head_or_link, period_head, period_link}
 use Rattle.tables.proofs.Rowed.{rows, sitter_of, sitter_row, rows_apart, rows_looser, place_below, place_row}
-use Rattle.tables.proofs.Swept.{by_head, by_link, lead_head, lead_link, table_length}
+use Rattle.tables.proofs.Swept.{by_head, by_link, lead_head, lead_link, lead_none, lead_next, table_length}
 
 work_range : (bit : ℕ) (w : Work) → ValidWork bit w → bit ≤ 100 → (1 ≤ least_of bit w) × (least_of bit w ≤ greatest_of bit w) × (greatest_of bit w ≤ 20000000)
 work_range bit (Task low high) v b = (v.1, v.2, omega (arith, v.3))
@@ -83,26 +83,6 @@ module _ (allows : ℕ → List Record → Trace → Type 0) (rule : Numbers) (l
         (rows_looser bits xs (blank rule bits xs) ws blank_length size (λ j hj. blank_short _ j hj) r)
         (place_on xs k) (place_below bits xs (blank rule bits xs) blank_length k h)).0
 
-  lead_fuel : (n m k : ℕ) → k < n → k < m → k < length xs → lead_within rule bits xs n k ≡ lead_within rule bits xs m k
-  lead_fuel zero m k ln lm h = absurd (not-suc-le-zero ln)
-  lead_fuel (suc n) zero k ln lm h = absurd (not-suc-le-zero lm)
-  lead_fuel (suc n) (suc m) k ln lm h =
-      ⊎_elim
-      (λ z. lead_head rule bits xs valid n k z ∙ sym (lead_head rule bits xs valid m k z))
-      (λ l.
-      let same = lead_fuel n m l.at (omega (arith, l.earlier)) (omega (arith, l.earlier)) l.below in
-      let left = lead_link rule bits xs valid n k l in
-      let right = lead_link rule bits xs valid m k l in
-      omega arith)
-      (head_or_link bits xs valid k h)
-
-  lead_next : (n k : ℕ) → k < n → k < length xs → (l : Link xs k) → lead_within rule bits xs n k ≡ lead rule bits xs l.at + least_at rule bits xs (blank rule bits xs) l.at
-  lead_next zero k lt h l = absurd (not-suc-le-zero lt)
-  lead_next (suc n) k lt h l =
-      let step = lead_link rule bits xs valid n k l in
-      let same = lead_fuel n (length xs) l.at (omega (arith, l.earlier)) l.below l.below in
-      omega arith
-
   lead_high : (n k : ℕ) → k < n → k < length xs → lead_within rule bits xs n k ≤ 20000000 * k
   lead_high zero k lt h = absurd (not-suc-le-zero lt)
   lead_high (suc n) k lt h =
@@ -123,16 +103,12 @@ module _ (allows : ℕ → List Record → Trace → Type 0) (rule : Numbers) (l
       (λ z.
       let e = by_head rule bits xs (first_window rule bits xs) k h z in
       let delay = ((valid.each k h).head z).2 in
-      let none : lead rule bits xs k ≡ 0 = lead_none (length xs) k h z in
+      let none : lead rule bits xs k ≡ 0 = lead_none rule bits xs valid (length xs) k z in
       record { ordered = rw e (omega arith); jitter = rw e (omega arith); opens = rw e (omega arith); high = rw e (omega arith) })
       (λ l.
       let e = by_link rule bits xs valid (first_window rule bits xs) k h l in
       record { ordered = rw e (omega arith); jitter = rw e (omega arith); opens = rw e; high = rw e (omega arith) })
       (head_or_link bits xs valid k h)
-    where
-      lead_none : (n k : ℕ) → k < n → (item_at xs k).predecessor ≡ 0 → lead_within rule bits xs n k ≡ 0
-      lead_none zero k lt z = refl
-      lead_none (suc n) k lt z = lead_head rule bits xs valid n k z
 
   range_next : (ws : List Span) → length ws ≡ length xs → ((k : ℕ) → k < length xs → InRange rule bits xs ws k) → AllBounded rule bits xs ws → (k : ℕ) → k < length xs → InRange rule bits xs (swept rule bits xs ws) k
   range_next ws size range all k h =
@@ -149,7 +125,7 @@ module _ (allows : ℕ → List Record → Trace → Type 0) (rule : Numbers) (l
       let answers = (answers_range ws size short l.at l.below).1 w.0 w.1 in
       let before = range l.at l.below in
       let least = least_blank ws size short l.at l.below in
-      let step = lead_next (length xs) k h h l in
+      let step = lead_next rule bits xs valid (length xs) k h h l in
       let opens : (span ws l.at).from + least_at rule bits xs ws l.at ≡ lead rule bits xs k = omega (arith, before.opens) in
       record {
         ordered = rw (e, w.1) (omega (arith, before.ordered, answers.0));

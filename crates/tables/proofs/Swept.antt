@@ -1,5 +1,5 @@
 -- What the sweeps come to: every table is below every steady one.
-use Rattle.std.proofs.Common.{◌≡◌, ℕ, zero, suc, ◌+◌, ◌-◌, ◌<◌, ◌≤◌, false, cond, eqb, List, length, Some, sym, ap, ◌∙◌, ⊎_elim, not-suc-le-zero, arith, ext_get_or}
+use Rattle.std.proofs.Common.{◌≡◌, ℕ, zero, suc, ◌+◌, ◌-◌, ◌<◌, ◌≤◌, false, cond, eqb, List, length, Some, sym, refl, ap, ◌∙◌, ⊎_elim, not-suc-le-zero, arith, ext_get_or}
 use lib.ListN.{length-replicate, get_or-replicate}
 use Rattle.std.proofs.lemmas.Bool.{eq-eqb, ne_eqb}
 use Rattle.std.proofs.lemmas.List.FromFn.{length-map-range_with_len, get_or-map-range_with_len}
@@ -10,7 +10,7 @@ use Rattle.items.specs.Items.{item_at}
 use Rattle.items.specs.Conditions.{bit_time_of}
 use Rattle.items.specs.Valid.{Valid}
 use Rattle.tables.specs.Demands.{Span, nowhere, span, place_on, place_of}
-use Rattle.tables.specs.Tables.{Numbers, least_at, worst_at, AllBounded, table_by, blank, lead_within, first_window, next_window, swept, table, Steady, Below}
+use Rattle.tables.specs.Tables.{Numbers, least_at, worst_at, AllBounded, table_by, blank, lead_within, lead, first_window, next_window, swept, table, Steady, Below}
 use Rattle.tables.specs.Stands.{Lawful}
 use Rattle.tables.proofs.Chains.{Link, head_or_link, no_head, link_from, place_found}
 use Rattle.tables.proofs.Rowed.{rows, rows_tighter, rows_looser, rows_good, place_below}
@@ -45,6 +45,33 @@ module _ (rule : Numbers) (bits : List ℕ) (xs : List Item) where
 
     pub lead_link : (n k : ℕ) (l : Link xs k) → lead_within rule bits xs (suc n) k ≡ lead_within rule bits xs n l.at + least_at rule bits xs (blank rule bits xs) l.at
     lead_link n k l = rw (link_test k l, link_place k l)
+
+    -- the lead of a head is none, however far its chain is followed
+    pub lead_none : (n k : ℕ) → (item_at xs k).predecessor ≡ 0 → lead_within rule bits xs n k ≡ 0
+    lead_none zero k z = refl
+    lead_none (suc n) k z = lead_head n k z
+
+    -- a chain that is followed beyond its head has the same lead
+    lead_fuel : (n m k : ℕ) → k < n → k < m → k < length xs → lead_within rule bits xs n k ≡ lead_within rule bits xs m k
+    lead_fuel zero m k ln lm h = absurd (not-suc-le-zero ln)
+    lead_fuel (suc n) zero k ln lm h = absurd (not-suc-le-zero lm)
+    lead_fuel (suc n) (suc m) k ln lm h =
+        ⊎_elim
+        (λ z. lead_head n k z ∙ sym (lead_head m k z))
+        (λ l.
+        let same = lead_fuel n m l.at (omega (arith, l.earlier)) (omega (arith, l.earlier)) l.below in
+        let left = lead_link n k l in
+        let right = lead_link m k l in
+        omega arith)
+        (head_or_link bits xs valid k h)
+
+    -- the lead of a follower is its predecessor's, and that one's least response
+    pub lead_next : (n k : ℕ) → k < n → k < length xs → (l : Link xs k) → lead_within rule bits xs n k ≡ lead rule bits xs l.at + least_at rule bits xs (blank rule bits xs) l.at
+    lead_next zero k lt h l = absurd (not-suc-le-zero lt)
+    lead_next (suc n) k lt h l =
+        let step = lead_link n k l in
+        let same = lead_fuel n (length xs) l.at (omega (arith, l.earlier)) l.below l.below in
+        omega arith
 
     -- a table that a sweep leaves as it is, with a worst for every item, is steady
     pub steady_since : (ws : List Span) → AllBounded rule bits xs ws → swept rule bits xs ws ≡ ws → Steady rule bits xs ws
