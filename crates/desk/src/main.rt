@@ -2,10 +2,14 @@
 //! Plans are opened one after the other; each is replayed with its visits, by one call.
 #![tactic(auto)]
 
+ghost use Rattle.std.specs.Prelude.{◌≡◌, IfErr};
+ghost use Rattle.std.specs.Process.{exit_status};
+
 use commands::command::Command;
 use commands::fault::Wrong;
 use commands::listed::Listed;
 use conditions::check_open;
+use console::{fail, hear, status_of, tell};
 use items::{Item, Refusal};
 use rules::bus::Bus;
 use rules::pair::Pair;
@@ -15,8 +19,6 @@ use script::read::command_of;
 use settle::{Fault, WindowRow};
 use std::alloc::{AllocError, AllocFailed, Global};
 use std::fmt;
-use std::fmt::Display;
-use std::io::Read;
 use std::process::ExitCode;
 use visits::replay::list::replay;
 use visits::visit::{Answer, Visit};
@@ -297,33 +299,25 @@ impl Desk {
     }
 }
 
-/// Writes the message to standard error, and fails.
-fn fail(rt: &HostRuntime, message: impl Display + Drop) -> ExitCode {
-    let _ = eprintln!(rt; "{message}");
-    ExitCode::FAILURE
-}
-
-fn main(rt: HostRuntime) -> ExitCode {
+/// Answers the script on standard input.
+fn run(rt: &HostRuntime) -> Result<(), ExitCode>
+    ensures { IfErr result (λ status. exit_status status ≡ 1) }
+{
     let heap = rt.alloc();
-    let mut bytes = Vec::new(heap);
-    if let Err(error) = rt.stdin().read_to_end(&mut bytes) {
-        return fail(&rt, format_args!("standard input cannot be read: {error}"));
-    }
+    let bytes = hear(rt)?;
     let mut desk = Desk::new(heap);
     let stopped = desk.hear(heap, bytes.as_slice());
     let finished = desk.close(heap);
-    let said = desk.said;
-    if let Err(error) = print!(rt; "{said}") {
-        return fail(
-            &rt,
-            format_args!("standard output cannot be written: {error}"),
-        );
-    }
+    tell(rt, desk.said)?;
     if let Err(stop) = stopped {
-        return fail(&rt, stop);
+        return Err(fail(rt, stop));
     }
-    match finished {
-        Ok(()) => ExitCode::SUCCESS,
-        Err(_) => fail(&rt, "there is no memory left"),
+    if finished.is_err() {
+        return Err(fail(rt, "there is no memory left"));
     }
+    Ok(())
+}
+
+fn main(rt: HostRuntime) -> ExitCode {
+    status_of(run(&rt))
 }
