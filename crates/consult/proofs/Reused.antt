@@ -7,7 +7,7 @@ use Rattle.items.specs.declared.Item.{Item}
 use Rattle.items.specs.Items.{item_at}
 use Rattle.items.specs.Conditions.{bit_time_of}
 use Rattle.tables.specs.Demands.{Span, span, row_of, rows_on, place_on}
-use Rattle.tables.specs.Tables.{Numbers}
+use Rattle.service.specs.Numbers.{Numbers}
 use Rattle.consult.specs.Answers.{Renewed, Answered}
 
 -- the windows of the items on a resource are as long in one table as in the other

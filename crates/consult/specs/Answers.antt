@@ -5,7 +5,8 @@ use Rattle.service.specs.declared.Response.{Response}
 use Rattle.items.specs.declared.Item.{Item}
 use Rattle.items.specs.Items.{item_at}
 use Rattle.tables.specs.Demands.{Span, place_on}
-use Rattle.tables.specs.Tables.{Numbers, least_at, worst_at}
+use Rattle.service.specs.Numbers.{Numbers}
+use Rattle.tables.specs.Tables.{least_at, worst_at}
 
 -- what stands beyond the answers
 abbrev pub no_answer : Response

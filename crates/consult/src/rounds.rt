@@ -31,7 +31,7 @@ fn ask_each<R: Rule>(
     answers: &mut [Response; 256],
 )
     requires { length items.now ≤ 256 }
-    ensures { AnsweredOn (record { least = R.Rule.least rule.now; worst = R.Rule.worst rule.now }) bit_time rows.now resource items.now answers.old answers.new }
+    ensures { AnsweredOn (R.Rule.numbers rule.now) bit_time rows.now resource items.now answers.old answers.new }
 {
     let mut place = 0;
     for at in 0..items.len() {
@@ -58,7 +58,7 @@ pub fn consult_on<R: Rule>(
     requires sized { length windows.now ≡ length items.now }
     requires low { 1 ≤ resource }
     requires high { resource ≤ length bits.now }
-    ensures { AnsweredOn (record { least = R.Rule.least rule.now; worst = R.Rule.worst rule.now }) (bit_time_of bits.now resource) (rows_on bits.now items.now resource items.now (spans_of windows.now)) resource items.now answers.old answers.new }
+    ensures { AnsweredOn (R.Rule.numbers rule.now) (bit_time_of bits.now resource) (rows_on bits.now items.now resource items.now (spans_of windows.now)) resource items.now answers.old answers.new }
 {
     let bit_time = bits[usize::from(resource) - 1];
     let count = rows_on(items, base, windows, resource, rows);
@@ -78,7 +78,7 @@ pub fn renew<R: Rule>(
     requires valid { Valid bits.now items.now }
     requires based { Based bits.now items.now base.now }
     requires sized { length windows.now ≡ length items.now }
-    ensures { Renewed (record { least = R.Rule.least rule.now; worst = R.Rule.worst rule.now }) bits.now items.now (spans_of windows.now) stale.now answers.old answers.new }
+    ensures { Renewed (R.Rule.numbers rule.now) bits.now items.now (spans_of windows.now) stale.now answers.old answers.new }
 {
     let mut rows = [NO_ROW; 256];
     for at in 0..bits.len() {
@@ -109,7 +109,7 @@ pub fn consult<R: Rule>(
     requires valid { Valid bits.now items.now }
     requires based { Based bits.now items.now base.now }
     requires sized { length windows.now ≡ length items.now }
-    ensures { Answered (record { least = R.Rule.least rule.now; worst = R.Rule.worst rule.now }) bits.now items.now (spans_of windows.now) answers.new }
+    ensures { Answered (R.Rule.numbers rule.now) bits.now items.now (spans_of windows.now) answers.new }
 {
     renew(rule, bits, items, base, windows, &[true; 16], answers);
 }

@@ -3,7 +3,8 @@ use Rattle.std.proofs.Common.{◌≡◌, ℕ, ◌-◌, ◌≤◌, List, Some, No
 use Rattle.std.proofs.lemmas.Bool.{cases_lt, cases_order}
 use Rattle.items.specs.declared.Item.{Item}
 use Rattle.tables.specs.Demands.{Span}
-use Rattle.tables.specs.Tables.{Numbers, worst_at, table}
+use Rattle.service.specs.Numbers.{Numbers}
+use Rattle.tables.specs.Tables.{worst_at, table}
 use Rattle.settle.specs.declared.Fault.TheVariants.{Budget, TableShort, Unbounded, Unsettled}
 use Rattle.settle.specs.Settled.{Lowest, Moving, Still, Failing, Ends}
 use Rattle.known.specs.Once.{OneWay}

@@ -3,7 +3,6 @@ use Rattle.std.proofs.Common.{◌≡◌, ℕ, zero, suc, ◌+◌, Bool, true, fa
 use Rattle.service.specs.declared.Record.{Record}
 use Rattle.service.specs.Traces.{Trace}
 use Rattle.service.specs.Rows.{row}
-use Rattle.service.specs.Laws.{Lawful as Lawful-at}
 use Rattle.service.specs.Answers.{answered_least, answered_worst}
 use Rattle.bounds.specs.Numbers.{solution_from}
 use Rattle.bounds.specs.Equations.{processor_step, bus_step, fitting, plus, processor_worst, bus_worst, least_demand}
@@ -12,9 +11,8 @@ use Rattle.rules.specs.Layers.{allows_by_bit, by_bit}
 use Rattle.rules.specs.Switches.{switched_allows, switched_least, switched_worst}
 use Rattle.rules.specs.Lawful.{processor_lawful, bus_lawful}
 use Rattle.rules.specs.Switched.{switched_lawful}
-use Rattle.tables.specs.Tables.{Numbers}
-use Rattle.tables.specs.Stands.{Lawful}
-use Rattle.sample.proofs.Pair.{lawful_at_each}
+use Rattle.service.specs.Numbers.{Numbers}
+use Rattle.service.specs.Laws.{LawfulRule}
 use Rattle.known.specs.Rule.{over}
 
 -- the search goes on only where it has not found a solution
@@ -62,12 +60,9 @@ quick_same s = λ i. by s (processor_same i) (bus_same i)
 abbrev pub allows : ℕ → ℕ → List Record → Trace → Type 0
 allows s = allows_by_bit (λ _. switched_allows s Processor) (λ _. Bus)
 
-over_lawful : (s : ℕ) → Lawful (allows s) (over s)
-over_lawful s = lawful_at_each (allows s) (over s) each
-  where
-    each : (bit : ℕ) → Lawful-at (allows s bit) ((over s).least bit) ((over s).worst bit)
-    each zero = switched_lawful s Processor (answered_least least_demand) (answered_worst processor_worst) processor_lawful
-    each (suc bit) = bus_lawful (suc bit)
+over_lawful : (s : ℕ) → LawfulRule (allows s) (over s)
+over_lawful s zero = switched_lawful s Processor (answered_least least_demand) (answered_worst processor_worst) processor_lawful
+over_lawful s (suc bit) = bus_lawful (suc bit)
 
-pub quick_lawful : (s : ℕ) → Lawful (allows s) (quick s)
-quick_lawful s = subst (λ r. Lawful (allows s) r) (sym (quick_same s)) (over_lawful s)
+pub quick_lawful : (s : ℕ) → LawfulRule (allows s) (quick s)
+quick_lawful s = subst (λ r. LawfulRule (allows s) r) (sym (quick_same s)) (over_lawful s)

@@ -5,7 +5,8 @@ use Rattle.std.proofs.lemmas.List.FromFn.{length-map-range_with_len, get_or-map-
 use Rattle.std.specs.List.{range_with_len}
 use Rattle.items.specs.declared.Item.{Item}
 use Rattle.tables.specs.Demands.{Span, nowhere, span}
-use Rattle.tables.specs.Tables.{Numbers, worst_or_0, least_at, worst_at, AllBounded, swept, table}
+use Rattle.service.specs.Numbers.{Numbers}
+use Rattle.tables.specs.Tables.{worst_or_0, least_at, worst_at, AllBounded, swept, table}
 use Rattle.tables.specs.Stands.{FinishWindows}
 use Rattle.settle.specs.Settled.{Moving, Still, Lowest}
 

@@ -3,7 +3,8 @@ use Rattle.std.specs.Prelude.{◌≡◌, ℕ, ◌-◌, List, length, Ok, Err}
 use Rattle.items.specs.declared.Item.{Item}
 use Rattle.items.specs.Valid.{Valid}
 use Rattle.tables.specs.Demands.{Span, span}
-use Rattle.tables.specs.Tables.{Numbers, table}
+use Rattle.service.specs.Numbers.{Numbers}
+use Rattle.tables.specs.Tables.{table}
 use Rattle.tables.specs.Stands.{FinishWindows}
 use Rattle.settle.specs.declared.Fault.TheVariants.{Unbounded, Unsettled}
 use Rattle.settle.specs.Settled.{Ends}

@@ -1,7 +1,7 @@
 -- That the sweeps come to one answer only.
 use Rattle.std.specs.Prelude.{◌≡◌, ℕ, List, Result}
 use Rattle.items.specs.declared.Item.{Item}
-use Rattle.tables.specs.Tables.{Numbers}
+use Rattle.service.specs.Numbers.{Numbers}
 use Rattle.settle.specs.declared.Fault.{Fault}
 use Rattle.settle.specs.Settled.{Ends}
 

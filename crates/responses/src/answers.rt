@@ -16,7 +16,7 @@ fn ask<R: Rule>(
     bit_time: u8,
     records: &[Record],
 ) -> Result<Vec<Response>, AllocError>
-    ensures { IfOk result (λ v. Answered (R.Rule.least rule.now bit_time records.now) (R.Rule.worst rule.now bit_time records.now) (length records.now) v.items) }
+    ensures { IfOk result (λ v. Answered ((R.Rule.numbers rule.now).least bit_time records.now) ((R.Rule.numbers rule.now).worst bit_time records.now) (length records.now) v.items) }
 {
     let mut answers = Vec::new(heap);
     for place in 0..records.len() {

@@ -1,6 +1,7 @@
 -- What the contracts of the rules cite.
 pub mod Workable
 pub mod Demands
+pub mod Answers
 pub mod Layers
 pub mod Switches
 pub mod Lawful

@@ -3,6 +3,7 @@ use Rattle.std.specs.Prelude.{◌≡◌, ℕ, ◌+◌, ◌*◌, Bool, true, cond
 use Rattle.service.specs.declared.Record.{Record}
 use Rattle.service.specs.Traces.{Trace}
 use Rattle.service.specs.Rows.{row}
+use Rattle.service.specs.Numbers.{Numbers}
 use Rattle.service.specs.Answers.{answered_least, answered_worst}
 
 -- the record with twice the switch's ticks on its greatest demand
@@ -34,3 +35,7 @@ switched_least s below rs p = answered_least (longer_least s below) rs p
 
 abbrev pub switched_worst : ℕ → (List Record → ℕ → Option ℕ) → List Record → ℕ → Option ℕ
 switched_worst s below rs p = answered_worst (longer_worst s below) rs p
+
+-- both at every bit time
+abbrev pub switched : ℕ → Numbers → Numbers
+switched s below = record { least = λ bit. switched_least s (below.least bit); worst = λ bit. switched_worst s (below.worst bit) }

@@ -1,10 +1,10 @@
 //! The bus rule: a frame once begun is served to its end; else the one of highest priority begins.
 ghost use Rattle.std.specs.Prelude.{◌≡◌, ◌<◌, ◌≤◌, length};
 ghost use Rattle.service.specs.Rows.{row};
-ghost use Rattle.service.specs.Answers.{answered_least, answered_worst};
-ghost use Rattle.bounds.specs.Equations.{longest, bus_worst, least_demand};
+ghost use Rattle.bounds.specs.Equations.{longest, bus_worst};
 ghost use Rattle.bounds.specs.Runs.{Bus as BusRun};
 ghost use Rattle.rules.specs.Workable.{Workable};
+ghost use Rattle.rules.specs.Answers.{bus_numbers};
 ghost use Rattle.rules.specs.Lawful.{bus_lawful};
 
 use crate::demand::Demand;
@@ -61,23 +61,9 @@ fn worst_at(bit_time: u8, records: &[Record], place: usize) -> Option<u32>
 impl Rule for Bus {
     ghost allows = { λ _ _ records x. BusRun records x };
 
-    ghost least = { λ _ _ records place. answered_least least_demand records place };
+    ghost numbers = { λ _. bus_numbers };
 
-    ghost worst = { λ _ bit records place. answered_worst (bus_worst bit) records place };
-
-    ghost bounded = { λ s bit. (bus_lawful bit).bounded };
-
-    ghost patient = { λ s bit. (bus_lawful bit).patient };
-
-    ghost rising = { λ s bit. (bus_lawful bit).rising };
-
-    ghost ranged = { λ s bit. (bus_lawful bit).ranged };
-
-    ghost unfit = { λ s bit. (bus_lawful bit).unfit };
-
-    ghost beyond = { λ s bit. (bus_lawful bit).beyond };
-
-    ghost crowded = { λ s bit. (bus_lawful bit).crowded };
+    ghost lawful = { λ _ bit. bus_lawful bit };
 
     fn respond(&self, bit_time: u8, records: &[Record], place: usize) -> Response {
         match Row::meant(records, place) {

@@ -13,43 +13,11 @@ pub enum Either<A, B> {
 impl<A: Rule, B: Rule> Rule for Either<A, B> {
     ghost allows = { λ s bit records x. allows_of_either A.Rule.allows B.Rule.allows s bit records x };
 
-    ghost least = { λ s bit records place. of_either A.Rule.least B.Rule.least s bit records place };
+    ghost numbers = { λ s. of_either A.Rule.numbers B.Rule.numbers s };
 
-    ghost worst = { λ s bit records place. of_either A.Rule.worst B.Rule.worst s bit records place };
-
-    ghost bounded = { elim [
-      | This a ↦ λ bit. A.Rule.bounded a bit
-      | That b ↦ λ bit. B.Rule.bounded b bit
-    ] };
-
-    ghost patient = { elim [
-      | This a ↦ λ bit. A.Rule.patient a bit
-      | That b ↦ λ bit. B.Rule.patient b bit
-    ] };
-
-    ghost rising = { elim [
-      | This a ↦ λ bit. A.Rule.rising a bit
-      | That b ↦ λ bit. B.Rule.rising b bit
-    ] };
-
-    ghost ranged = { elim [
-      | This a ↦ λ bit. A.Rule.ranged a bit
-      | That b ↦ λ bit. B.Rule.ranged b bit
-    ] };
-
-    ghost unfit = { elim [
-      | This a ↦ λ bit. A.Rule.unfit a bit
-      | That b ↦ λ bit. B.Rule.unfit b bit
-    ] };
-
-    ghost beyond = { elim [
-      | This a ↦ λ bit. A.Rule.beyond a bit
-      | That b ↦ λ bit. B.Rule.beyond b bit
-    ] };
-
-    ghost crowded = { elim [
-      | This a ↦ λ bit. A.Rule.crowded a bit
-      | That b ↦ λ bit. B.Rule.crowded b bit
+    ghost lawful = { elim [
+      | This a ↦ A.Rule.lawful a
+      | That b ↦ B.Rule.lawful b
     ] };
 
     fn respond(&self, bit_time: u8, records: &[Record], place: usize) -> Response {

@@ -1,9 +1,9 @@
 //! The processor rule: the job of highest priority is served in every tick.
 ghost use Rattle.std.specs.Prelude.{◌≡◌, ◌<◌, length};
-ghost use Rattle.service.specs.Answers.{answered_least, answered_worst};
-ghost use Rattle.bounds.specs.Equations.{processor_worst, least_demand};
+ghost use Rattle.bounds.specs.Equations.{processor_worst};
 ghost use Rattle.bounds.specs.Runs.{Processor as ProcessorRun};
 ghost use Rattle.rules.specs.Workable.{Workable};
+ghost use Rattle.rules.specs.Answers.{processor_numbers};
 ghost use Rattle.rules.specs.Lawful.{processor_lawful};
 
 use crate::demand::Demand;
@@ -31,23 +31,9 @@ fn worst_at(records: &[Record], place: usize) -> Option<u32>
 impl Rule for Processor {
     ghost allows = { λ _ _ records x. ProcessorRun records x };
 
-    ghost least = { λ _ _ records place. answered_least least_demand records place };
+    ghost numbers = { λ _. processor_numbers };
 
-    ghost worst = { λ _ _ records place. answered_worst processor_worst records place };
-
-    ghost bounded = { λ s bit. processor_lawful.bounded };
-
-    ghost patient = { λ s bit. processor_lawful.patient };
-
-    ghost rising = { λ s bit. processor_lawful.rising };
-
-    ghost ranged = { λ s bit. processor_lawful.ranged };
-
-    ghost unfit = { λ s bit. processor_lawful.unfit };
-
-    ghost beyond = { λ s bit. processor_lawful.beyond };
-
-    ghost crowded = { λ s bit. processor_lawful.crowded };
+    ghost lawful = { λ _ _. processor_lawful };
 
     fn respond(&self, _bit_time: u8, records: &[Record], place: usize) -> Response {
         match Row::meant(records, place) {

@@ -3,6 +3,7 @@ use Rattle.std.specs.Prelude.{◌≡◌, ℕ, ◌+◌, ◌<◌, ◌≤◌, true,
 use Rattle.service.specs.declared.Record.{Record}
 use Rattle.service.specs.Traces.{Trace, Done, Finishes, Orderly}
 use Rattle.service.specs.Rows.{row, IsRow, Fit, Rows, Looser}
+use Rattle.service.specs.Numbers.{Numbers}
 
 -- the tick at which the release window of a job closes, if its row's windows open `ahead` ticks after the arrivals
 abbrev pub closes : List Record → (ℕ → ℕ) → ℕ → ℕ → ℕ
@@ -63,3 +64,7 @@ pub record Lawful (allows : Allows) (least : List Record → ℕ → ℕ) (worst
   pub unfit : Unfit least worst
   pub beyond : Beyond least worst
   pub crowded : Crowded least worst
+
+-- and so at every bit time
+abbrev pub LawfulRule : (ℕ → Allows) → Numbers → Type 0
+LawfulRule allows rule = (bit : ℕ) → Lawful (allows bit) (rule.least bit) (rule.worst bit)

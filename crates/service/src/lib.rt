@@ -1,9 +1,10 @@
 //! What a service rule is: what it is told of one resource, what it answers, and what it must show.
 #![tactic(auto)]
 
-ghost use Rattle.std.specs.Prelude.{◌≡◌, ℕ, List, Option};
+ghost use Rattle.std.specs.Prelude.{◌≡◌, ℕ, List};
 ghost use Rattle.service.specs.Traces.{Trace};
-ghost use Rattle.service.specs.Laws.{Bounded, Patient, Rising, Ranged, Unfit, Beyond, Crowded};
+ghost use Rattle.service.specs.Numbers.{Numbers};
+ghost use Rattle.service.specs.Laws.{LawfulRule};
 ghost use Rattle.service.specs.declared.Record.{Record};
 
 pub mod row;
@@ -36,27 +37,12 @@ pub trait Rule {
     /// The runs that the rule allows on a resource of a bit time and with these records.
     ghost allows: { Self → ℕ → List Record → Trace → Type 0 };
 
-    /// The least response of the row at a place.
-    ghost least: { Self → ℕ → List Record → ℕ → ℕ };
-
-    /// Its worst response, or none.
-    ghost worst: { Self → ℕ → List Record → ℕ → Option ℕ };
+    /// The least and the worst response of the row at a place.
+    ghost numbers: { Self → Numbers };
 
     fn respond(&self, bit_time: u8, records: &[Record], place: usize) -> Response
-        ensures least { result.least ≡ least self.now bit_time records.now place }
-        ensures worst { result.worst ≡ worst self.now bit_time records.now place };
+        ensures least { result.least ≡ (numbers self.now).least bit_time records.now place }
+        ensures worst { result.worst ≡ (numbers self.now).worst bit_time records.now place };
 
-    ghost bounded: { (s : Self) (bit : ℕ) → Bounded (allows s bit) (worst s bit) };
-
-    ghost patient: { (s : Self) (bit : ℕ) → Patient (allows s bit) (least s bit) };
-
-    ghost rising: { (s : Self) (bit : ℕ) → Rising (least s bit) (worst s bit) };
-
-    ghost ranged: { (s : Self) (bit : ℕ) → Ranged (least s bit) (worst s bit) };
-
-    ghost unfit: { (s : Self) (bit : ℕ) → Unfit (least s bit) (worst s bit) };
-
-    ghost beyond: { (s : Self) (bit : ℕ) → Beyond (least s bit) (worst s bit) };
-
-    ghost crowded: { (s : Self) (bit : ℕ) → Crowded (least s bit) (worst s bit) };
+    ghost lawful: { (s : Self) → LawfulRule (allows s) (numbers s) };
 }

@@ -9,8 +9,9 @@ use Rattle.items.specs.Items.{item_at}
 use Rattle.items.specs.Conditions.{bit_time_of}
 use Rattle.items.specs.Valid.{Valid}
 use Rattle.tables.specs.Demands.{Span, nowhere, span, place_on}
-use Rattle.tables.specs.Tables.{Numbers, least_at, blank, lead_within, lead, first_window, first_table}
-use Rattle.tables.specs.Stands.{Lawful}
+use Rattle.service.specs.Numbers.{Numbers}
+use Rattle.tables.specs.Tables.{least_at, blank, lead_within, lead, first_window, first_table}
+use Rattle.service.specs.Laws.{LawfulRule}
 use Rattle.tables.proofs.Chains.{Link, head_or_link, no_head}
 use Rattle.tables.proofs.Rowed.{rows, place_below}
 use Rattle.tables.proofs.Ranges.{rows_in_range}
@@ -45,12 +46,12 @@ module _ (bits : List ℕ) (xs : List Item) (valid : Valid bits xs) where
 
   module _ (rule : Numbers) where
     -- the leasts of the empty windows are in range
-    pub least_high : (allows : ℕ → List Record → Trace → Type 0) → Lawful allows rule → (k : ℕ) → k < length xs → least_at rule bits xs (blank rule bits xs) k ≤ 20000000
+    pub least_high : (allows : ℕ → List Record → Trace → Type 0) → LawfulRule allows rule → (k : ℕ) → k < length xs → least_at rule bits xs (blank rule bits xs) k ≤ 20000000
     least_high allows laws k h =
         let r = (item_at xs k).resource in
         let size = length-replicate (length xs) nowhere in
         let short : (j : ℕ) → j < length xs → (span (blank rule bits xs) j).to - (span (blank rule bits xs) j).from ≤ 10000000 = λ j hj. let e = get_or-replicate (length xs) j nowhere nowhere hj in rw e (omega arith) in
-        (laws.ranged (bit_time_of bits r) (rows bits xs (blank rule bits xs) r) (rows_in_range bits xs valid (blank rule bits xs) size short r) (place_on xs k) (place_below bits xs (blank rule bits xs) size k h)).0.1
+        ((laws (bit_time_of bits r)).ranged (rows bits xs (blank rule bits xs) r) (rows_in_range bits xs valid (blank rule bits xs) size short r) (place_on xs k) (place_below bits xs (blank rule bits xs) size k h)).0.1
 
     module _ (answers : List Response) (told : Answered rule bits xs (blank rule bits xs) answers) (ws : List Span) (led : Led xs answers ws (length xs)) where
       led_head : (k : ℕ) → k < length xs → (item_at xs k).predecessor ≡ 0 → span ws k ≡ record { from = 0; to = (item_at xs k).delay }

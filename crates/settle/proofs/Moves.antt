@@ -7,8 +7,10 @@ use Rattle.items.specs.declared.Item.{Item}
 use Rattle.items.specs.Items.{item_at}
 use Rattle.items.specs.Valid.{Valid}
 use Rattle.tables.specs.Demands.{Span, span}
-use Rattle.tables.specs.Tables.{Numbers, AllBounded, swept, table}
-use Rattle.tables.specs.Stands.{Lawful, Settles}
+use Rattle.service.specs.Numbers.{Numbers}
+use Rattle.tables.specs.Tables.{AllBounded, swept, table}
+use Rattle.service.specs.Laws.{LawfulRule}
+use Rattle.tables.specs.Stands.{Settles}
 use Rattle.tables.proofs.Settling.{settling}
 use Rattle.consult.specs.Answers.{Answered}
 use Rattle.settle.specs.Passes.{Narrow}
@@ -37,7 +39,7 @@ module _ (rule : Numbers) (bits : List ℕ) (xs : List Item) where
     pub still_here : AllBounded rule bits xs ws → swept rule bits xs ws ≡ ws → Still rule bits xs n
     still_here all same = record { before = moving; bounded = bounded_here all; same = sym next_table ∙ same ∙ is }
 
-    module _ (allows : ℕ → List Record → Trace → Type 0) (laws : Lawful allows rule) (valid : Valid bits xs) where
+    module _ (allows : ℕ → List Record → Trace → Type 0) (laws : LawfulRule allows rule) (valid : Valid bits xs) where
       settles : Settles allows rule bits xs
       settles = settling allows rule laws bits xs valid
 

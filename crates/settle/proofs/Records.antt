@@ -7,8 +7,10 @@ use Rattle.items.specs.declared.Item.{Item}
 use Rattle.items.specs.Items.{item_at}
 use Rattle.items.specs.Valid.{Valid}
 use Rattle.tables.specs.Demands.{Span, span}
-use Rattle.tables.specs.Tables.{Numbers, worst_or_0, table}
-use Rattle.tables.specs.Stands.{Lawful, FinishWindows}
+use Rattle.service.specs.Numbers.{Numbers}
+use Rattle.tables.specs.Tables.{worst_or_0, table}
+use Rattle.service.specs.Laws.{LawfulRule}
+use Rattle.tables.specs.Stands.{FinishWindows}
 use Rattle.tables.proofs.Settling.{settling}
 use Rattle.settle.specs.declared.Fault.{Fault}
 use Rattle.settle.specs.declared.Fault.TheVariants.{Budget, TableShort, Unbounded, Unsettled}
@@ -31,7 +33,7 @@ module _ (allows : ℕ → List Record → Trace → Type 0) (rule : Numbers) (b
       closes = λ k w h e. ap (λ (r : WindowRow). r.finish_close) (rows k h) ∙ ap (λ (o : Option ℕ). (span ws k).to + worst_or_0 o) (told.worst k h ∙ e);
     }
 
-    pub written : Lawful allows rule → Valid bits xs → Still rule bits xs n → length new ≡ length old → ((k : ℕ) → length xs ≤ k → row_at new k ≡ row_at old k) → Written allows rule bits xs (table rule bits xs n) old new
+    pub written : LawfulRule allows rule → Valid bits xs → Still rule bits xs n → length new ≡ length old → ((k : ℕ) → length xs ≤ k → row_at new k ≡ row_at old k) → Written allows rule bits xs (table rule bits xs n) old new
     written laws valid still size rest = record {
       size = size;
       numbers = λ k h. ap (λ (r : WindowRow). r.number) (rows k h);
@@ -41,7 +43,7 @@ module _ (allows : ℕ → List Record → Trace → Type 0) (rule : Numbers) (b
     }
 
   -- the count of the sweeps is the answer
-  pub settled_count : (budget n : ℕ) (windows : List Window) (answers : List Response) (old new : List WindowRow) → Lawful allows rule → Valid bits xs → Budgeted budget → length xs ≤ length old
+  pub settled_count : (budget n : ℕ) (windows : List Window) (answers : List Response) (old new : List WindowRow) → LawfulRule allows rule → Valid bits xs → Budgeted budget → length xs ≤ length old
       → Ends rule bits xs budget (Ok n) → Left rule bits xs (front (length xs) windows) answers (Ok n) → length new ≡ length old
       → ((k : ℕ) → k < length xs → row_at new k ≡ row_for (item_at xs k).number (span (spans_of windows) k) (answer_at answers k)) → ((k : ℕ) → length xs ≤ k → row_at new k ≡ row_at old k)
       → Settled allows rule bits xs budget old new (Ok n)

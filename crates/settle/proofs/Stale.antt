@@ -8,7 +8,7 @@ use Rattle.items.specs.Items.{item_at}
 use Rattle.items.specs.Conditions.{bit_time_of}
 use Rattle.items.specs.Valid.{Valid}
 use Rattle.tables.specs.Demands.{Span, span, rows_on, place_on}
-use Rattle.tables.specs.Tables.{Numbers}
+use Rattle.service.specs.Numbers.{Numbers}
 use Rattle.consult.specs.declared.window.Window.{Window}
 use Rattle.consult.specs.Answers.{Renewed, Answered}
 use Rattle.consult.specs.Windows.{spans_of}

@@ -6,7 +6,8 @@ use Rattle.items.specs.declared.Item.{Item}
 use Rattle.items.specs.Items.{item_at}
 use Rattle.items.specs.Valid.{Valid}
 use Rattle.tables.specs.Demands.{Span, span, place_of}
-use Rattle.tables.specs.Tables.{Numbers, worst_or_0, AllBounded, next_window, swept}
+use Rattle.service.specs.Numbers.{Numbers}
+use Rattle.tables.specs.Tables.{worst_or_0, AllBounded, next_window, swept}
 use Rattle.tables.proofs.Chains.{Link, head_or_link, no_head, place_found}
 use Rattle.tables.proofs.Swept as tables
 use Rattle.consult.specs.Answers.{Answered}

@@ -5,7 +5,8 @@ use Rattle.service.specs.Traces.{Trace}
 use Rattle.items.specs.declared.Item.{Item}
 use Rattle.items.specs.Items.{item_at}
 use Rattle.tables.specs.Demands.{Span, span}
-use Rattle.tables.specs.Tables.{Numbers, worst_at, AllBounded, table, Steady}
+use Rattle.service.specs.Numbers.{Numbers}
+use Rattle.tables.specs.Tables.{worst_at, AllBounded, table, Steady}
 use Rattle.tables.specs.Stands.{TrueWindows}
 use Rattle.settle.specs.declared.WindowRow.{WindowRow}
 use Rattle.settle.specs.declared.Fault.{Fault}

@@ -4,7 +4,8 @@ use Rattle.service.specs.declared.Response.{Response}
 use Rattle.items.specs.declared.Item.{Item}
 use Rattle.items.specs.Items.{item_at}
 use Rattle.tables.specs.Demands.{Span}
-use Rattle.tables.specs.Tables.{Numbers, least_at, worst_at, AllBounded, swept, table}
+use Rattle.service.specs.Numbers.{Numbers}
+use Rattle.tables.specs.Tables.{least_at, worst_at, AllBounded, swept, table}
 use Rattle.settle.specs.declared.Fault.{Fault}
 use Rattle.settle.specs.declared.sweeps.Outcome.{Outcome}
 use Rattle.settle.specs.declared.sweeps.Outcome.TheVariants.{Missing, Still, Altered}

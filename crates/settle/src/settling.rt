@@ -27,7 +27,7 @@ pub fn settle<R: Rule>(
     budget: u32,
     table: &mut [WindowRow],
 ) -> Result<u32, Fault>
-    ensures { Settled (R.Rule.allows rule.now) (record { least = R.Rule.least rule.now; worst = R.Rule.worst rule.now }) (view plan.now).bits (view plan.now).items budget table.old table.new result }
+    ensures { Settled (R.Rule.allows rule.now) (R.Rule.numbers rule.now) (view plan.now).bits (view plan.now).items budget table.old table.new result }
 {
     if budget == 0 || budget > MOST {
         return Err(Fault::Budget);

@@ -49,9 +49,9 @@ fn begin<R: Rule>(
     requires valid { Valid bits.now items.now }
     requires based { Based bits.now items.now base.now }
     requires chained { Chained items.now links.now }
-    requires empty { front (length items.now) windows.old ≡ blank (record { least = R.Rule.least rule.now; worst = R.Rule.worst rule.now }) bits.now items.now }
-    ensures first { front (length items.now) windows.new ≡ first_table (record { least = R.Rule.least rule.now; worst = R.Rule.worst rule.now }) bits.now items.now }
-    ensures fresh { Fresh (record { least = R.Rule.least rule.now; worst = R.Rule.worst rule.now }) bits.now items.now (front (length items.now) windows.new) result answers.new }
+    requires empty { front (length items.now) windows.old ≡ blank (R.Rule.numbers rule.now) bits.now items.now }
+    ensures first { front (length items.now) windows.new ≡ first_table (R.Rule.numbers rule.now) bits.now items.now }
+    ensures fresh { Fresh (R.Rule.numbers rule.now) bits.now items.now (front (length items.now) windows.new) result answers.new }
 {
     let count = items.len();
     let empty = *windows;
@@ -74,9 +74,9 @@ fn sweep<R: Rule>(
     requires valid { Valid bits.now items.now }
     requires based { Based bits.now items.now base.now }
     requires chained { Chained items.now links.now }
-    requires fresh { Fresh (record { least = R.Rule.least rule.now; worst = R.Rule.worst rule.now }) bits.now items.now (front (length items.now) windows.old) stale.old answers.old }
-    requires narrow { AllBounded (record { least = R.Rule.least rule.now; worst = R.Rule.worst rule.now }) bits.now items.now (front (length items.now) windows.old) → (k : ℕ) → k < length items.now → Narrow (span (swept (record { least = R.Rule.least rule.now; worst = R.Rule.worst rule.now }) bits.now items.now (front (length items.now) windows.old)) k) }
-    ensures { Swept (record { least = R.Rule.least rule.now; worst = R.Rule.worst rule.now }) bits.now items.now (front (length items.now) windows.old) (front (length items.now) windows.new) stale.new answers.new result }
+    requires fresh { Fresh (R.Rule.numbers rule.now) bits.now items.now (front (length items.now) windows.old) stale.old answers.old }
+    requires narrow { AllBounded (R.Rule.numbers rule.now) bits.now items.now (front (length items.now) windows.old) → (k : ℕ) → k < length items.now → Narrow (span (swept (R.Rule.numbers rule.now) bits.now items.now (front (length items.now) windows.old)) k) }
+    ensures { Swept (R.Rule.numbers rule.now) bits.now items.now (front (length items.now) windows.old) (front (length items.now) windows.new) stale.new answers.new result }
 {
     let count = items.len();
     renew(rule, bits, items, base, &windows[0..count], stale, answers);
@@ -108,10 +108,10 @@ fn sweep_all<R: Rule>(
     requires valid { Valid bits.now items.now }
     requires based { Based bits.now items.now base.now }
     requires chained { Chained items.now links.now }
-    requires fresh { Fresh (record { least = R.Rule.least rule.now; worst = R.Rule.worst rule.now }) bits.now items.now (front (length items.now) windows.old) stale.old answers.old }
-    requires first { front (length items.now) windows.old ≡ first_table (record { least = R.Rule.least rule.now; worst = R.Rule.worst rule.now }) bits.now items.now }
-    ensures ends { Ends (record { least = R.Rule.least rule.now; worst = R.Rule.worst rule.now }) bits.now items.now budget result }
-    ensures left { Left (record { least = R.Rule.least rule.now; worst = R.Rule.worst rule.now }) bits.now items.now (front (length items.now) windows.new) answers.new result }
+    requires fresh { Fresh (R.Rule.numbers rule.now) bits.now items.now (front (length items.now) windows.old) stale.old answers.old }
+    requires first { front (length items.now) windows.old ≡ first_table (R.Rule.numbers rule.now) bits.now items.now }
+    ensures ends { Ends (R.Rule.numbers rule.now) bits.now items.now budget result }
+    ensures left { Left (R.Rule.numbers rule.now) bits.now items.now (front (length items.now) windows.new) answers.new result }
 {
     for made in 0..budget {
         match sweep(rule, bits, items, base, links, windows, stale, answers) {
@@ -139,9 +139,9 @@ pub(crate) fn steady<R: Rule>(
     answers: &mut [Response; 256],
 ) -> Result<u32, Fault>
     requires valid { Valid bits.now items.now }
-    requires empty { front (length items.now) windows.old ≡ blank (record { least = R.Rule.least rule.now; worst = R.Rule.worst rule.now }) bits.now items.now }
-    ensures ends { Ends (record { least = R.Rule.least rule.now; worst = R.Rule.worst rule.now }) bits.now items.now budget result }
-    ensures left { Left (record { least = R.Rule.least rule.now; worst = R.Rule.worst rule.now }) bits.now items.now (front (length items.now) windows.new) answers.new result }
+    requires empty { front (length items.now) windows.old ≡ blank (R.Rule.numbers rule.now) bits.now items.now }
+    ensures ends { Ends (R.Rule.numbers rule.now) bits.now items.now budget result }
+    ensures left { Left (R.Rule.numbers rule.now) bits.now items.now (front (length items.now) windows.new) answers.new result }
 {
     let mut links = [0; 256];
     let mut base = [NO_ROW; 256];

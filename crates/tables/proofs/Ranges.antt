@@ -11,8 +11,10 @@ use Rattle.items.specs.Items.{item_at}
 use Rattle.items.specs.Conditions.{bit_time_of}
 use Rattle.items.specs.Valid.{Valid, ValidWork}
 use Rattle.tables.specs.Demands.{Span, nowhere, span, least_of, greatest_of, period_within, period_of, row_of, place_on}
-use Rattle.tables.specs.Tables.{Numbers, least_at, worst_at, AllBounded, blank, lead_within, lead, first_window, first_table, next_window, swept, table}
-use Rattle.tables.specs.Stands.{Lawful, Reached, InRange}
+use Rattle.service.specs.Numbers.{Numbers}
+use Rattle.tables.specs.Tables.{least_at, worst_at, AllBounded, blank, lead_within, lead, first_window, first_table, next_window, swept, table}
+use Rattle.service.specs.Laws.{LawfulRule}
+use Rattle.tables.specs.Stands.{Reached, InRange}
 use Rattle.tables.proofs.Chains.{Link, head_or_link, period_head, period_link}
 use Rattle.tables.proofs.Rowed.{rows, sitter_of, sitter_row, rows_apart, rows_looser, place_below, place_row}
 use Rattle.tables.proofs.Swept.{by_head, by_link, lead_head, lead_link, lead_none, lead_next, table_length}
@@ -55,7 +57,7 @@ module _ (bits : List ℕ) (xs : List Item) (valid : Valid bits xs) where
     apart = rows_apart bits xs ws size valid r;
   }
 
-module _ (allows : ℕ → List Record → Trace → Type 0) (rule : Numbers) (laws : Lawful allows rule) (bits : List ℕ) (xs : List Item) (valid : Valid bits xs) where
+module _ (allows : ℕ → List Record → Trace → Type 0) (rule : Numbers) (laws : LawfulRule allows rule) (bits : List ℕ) (xs : List Item) (valid : Valid bits xs) where
   blank_length : length (blank rule bits xs) ≡ length xs
   blank_length = length-replicate (length xs) nowhere
 
@@ -68,7 +70,7 @@ module _ (allows : ℕ → List Record → Trace → Type 0) (rule : Numbers) (l
         → ((1 ≤ least_at rule bits xs ws k) × (least_at rule bits xs ws k ≤ 20000000)) × ((w : ℕ) → worst_at rule bits xs ws k ≡ Some w → (least_at rule bits xs ws k ≤ w) × ((span ws k).to - (span ws k).from + w ≤ 10000000))
     answers_range k h =
         let r = (item_at xs k).resource in
-        let all = laws.ranged (bit_time_of bits r) (rows bits xs ws r) (rows_in_range bits xs valid ws size short r) (place_on xs k) (place_below bits xs ws size k h) in
+        let all = (laws (bit_time_of bits r)).ranged (rows bits xs ws r) (rows_in_range bits xs valid ws size short r) (place_on xs k) (place_below bits xs ws size k h) in
         let here = place_row bits xs ws size k h in
         let jitter : (row (rows bits xs ws r) (place_on xs k)).jitter ≡ (span ws k).to - (span ws k).from = ap (λ (x : Record). x.jitter) here in
         let period : (row (rows bits xs ws r) (place_on xs k)).period ≡ period_of xs (item_at xs k) = ap (λ (x : Record). x.period) here in
@@ -78,7 +80,7 @@ module _ (allows : ℕ → List Record → Trace → Type 0) (rule : Numbers) (l
     least_blank : (k : ℕ) → k < length xs → least_at rule bits xs (blank rule bits xs) k ≡ least_at rule bits xs ws k
     least_blank k h =
         let r = (item_at xs k).resource in
-        (laws.rising (bit_time_of bits r) (rows bits xs (blank rule bits xs) r) (rows bits xs ws r)
+        ((laws (bit_time_of bits r)).rising (rows bits xs (blank rule bits xs) r) (rows bits xs ws r)
         (rows_in_range bits xs valid (blank rule bits xs) blank_length (blank_short 10000000) r) (rows_in_range bits xs valid ws size short r)
         (rows_looser bits xs (blank rule bits xs) ws blank_length size (λ j hj. blank_short _ j hj) r)
         (place_on xs k) (place_below bits xs (blank rule bits xs) blank_length k h)).0

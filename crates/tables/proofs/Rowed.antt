@@ -8,7 +8,8 @@ use Rattle.items.specs.declared.Item.{Item}
 use Rattle.items.specs.Items.{item_at}
 use Rattle.items.specs.Valid.{Valid}
 use Rattle.tables.specs.Demands.{Span, span, row_of, rows_on, place_on}
-use Rattle.tables.specs.Tables.{Numbers, worst_at}
+use Rattle.service.specs.Numbers.{Numbers}
+use Rattle.tables.specs.Tables.{worst_at}
 use Rattle.tables.proofs.Places.{seat, seat_below, seat_row, rows_length, Sitter, sitter}
 
 -- what is a row stays one under a smaller jitter

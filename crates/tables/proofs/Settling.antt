@@ -4,20 +4,22 @@ use Rattle.service.specs.declared.Record.{Record}
 use Rattle.service.specs.Traces.{Trace}
 use Rattle.items.specs.declared.Item.{Item}
 use Rattle.items.specs.Valid.{Valid}
-use Rattle.tables.specs.Tables.{Numbers, AllBounded, table, LeastSteady}
-use Rattle.tables.specs.Stands.{Lawful, Settling}
+use Rattle.service.specs.Numbers.{Numbers}
+use Rattle.tables.specs.Tables.{AllBounded, table, LeastSteady}
+use Rattle.service.specs.Laws.{LawfulRule}
+use Rattle.tables.specs.Stands.{Settling}
 use Rattle.tables.proofs.Sound.{sound}
 use Rattle.tables.proofs.Swept.{steady_since, unaltered, below, bounded}
 use Rattle.tables.proofs.Ranges.{in_range, least_range, worst_range, opens_low}
 
-module _ (allows : ℕ → List Record → Trace → Type 0) (rule : Numbers) (laws : Lawful allows rule) (bits : List ℕ) (xs : List Item) (valid : Valid bits xs) where
+module _ (allows : ℕ → List Record → Trace → Type 0) (rule : Numbers) (laws : LawfulRule allows rule) (bits : List ℕ) (xs : List Item) (valid : Valid bits xs) where
   least_steady : (n : ℕ) → AllBounded rule bits xs (table rule bits xs n) → table rule bits xs (n + 1) ≡ table rule bits xs n → LeastSteady rule bits xs (table rule bits xs n)
   least_steady n all same = record {
     steady = steady_since rule bits xs valid (table rule bits xs n) all (rw add-one at same);
     least = λ vs steady. below rule bits xs valid allows laws vs steady n;
   }
 
-pub settling : (allows : ℕ → List Record → Trace → Type 0) (rule : Numbers) → Lawful allows rule → Settling allows rule
+pub settling : (allows : ℕ → List Record → Trace → Type 0) (rule : Numbers) → LawfulRule allows rule → Settling allows rule
 settling allows rule laws bits xs valid = record {
   steady = steady_since rule bits xs valid;
   unaltered = unaltered rule bits xs valid;

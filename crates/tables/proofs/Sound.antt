@@ -12,9 +12,11 @@ use Rattle.items.specs.Items.{item_at}
 use Rattle.items.specs.Conditions.{bit_time_of}
 use Rattle.items.specs.Valid.{Valid, ValidWork}
 use Rattle.tables.specs.Demands.{Span, span, least_of, items_on, place_on, place_of}
-use Rattle.tables.specs.Tables.{Numbers, Steady, least_at, worst_at}
+use Rattle.service.specs.Numbers.{Numbers}
+use Rattle.tables.specs.Tables.{Steady, least_at, worst_at}
 use Rattle.tables.specs.Runs.{seen_on, Allowed, Kept}
-use Rattle.tables.specs.Stands.{FinishWindows, Lawful, Sound}
+use Rattle.service.specs.Laws.{LawfulRule}
+use Rattle.tables.specs.Stands.{FinishWindows, Sound}
 use Rattle.tables.proofs.Places.{seat_item, rows_length, Sitter}
 use Rattle.tables.proofs.Served.{had_rises, finished, finishes_seen, done_unseen, ready_unseen}
 use Rattle.tables.proofs.Chains.{Link, head_or_link, place_found, arrivals_spaced}
@@ -34,14 +36,14 @@ least_positive bit (Task low high) v = v.1
 least_positive bit (Frame s) v = let b = v.0 in omega arith
 
 -- a steady table
-module _ (allows : ℕ → List Record → Trace → Type 0) (rule : Numbers) (laws : Lawful allows rule) (bits : List ℕ) (xs : List Item) (valid : Valid bits xs) (ws : List Span) (steady : Steady rule bits xs ws) where
+module _ (allows : ℕ → List Record → Trace → Type 0) (rule : Numbers) (laws : LawfulRule allows rule) (bits : List ℕ) (xs : List Item) (valid : Valid bits xs) (ws : List Span) (steady : Steady rule bits xs ws) where
   steady_rows : (r : ℕ) → Rows (rows bits xs ws r)
-  steady_rows = rows_good bits xs ws steady.size rule laws.unfit valid steady.bounded
+  steady_rows = rows_good bits xs ws steady.size rule (λ bit. (laws bit).unfit) valid steady.bounded
 
   -- a least is at least 1 and at most its worst
   steady_range : (k w : ℕ) → k < length xs → worst_at rule bits xs ws k ≡ Some w → (1 ≤ least_at rule bits xs ws k) × (least_at rule bits xs ws k ≤ w)
   steady_range k w h e =
-      let r = laws.ranged (bit_time_of bits (item_at xs k).resource) _ (steady_rows (item_at xs k).resource) (place_on xs k) (place_below bits xs ws steady.size k h) in
+      let r = (laws (bit_time_of bits (item_at xs k).resource)).ranged _ (steady_rows (item_at xs k).resource) (place_on xs k) (place_below bits xs ws steady.size k h) in
       (r.0.0, (r.1 w e).0)
 
   opens_within : (n k : ℕ) → k < n → k < length xs → (span ws k).from ≤ (span ws k).to
@@ -125,7 +127,7 @@ module _ (allows : ℕ → List Record → Trace → Type 0) (rule : Numbers) (l
     not_early : (k a r f : ℕ) → k < length xs → run.release (item_at xs k).number a ≡ Some r → Finishes run (item_at xs k).number a f → r + least_at rule bits xs ws k ≤ f
     not_early k a r f h e fin =
         let n = own_number k h in
-        laws.patient (bit_time_of bits (item_at xs k).resource) (rows bits xs ws (item_at xs k).resource) (seen_on xs (item_at xs k).resource run) (place_on xs k) a r f
+        (laws (bit_time_of bits (item_at xs k).resource)).patient (rows bits xs ws (item_at xs k).resource) (seen_on xs (item_at xs k).resource run) (place_on xs k) a r f
         (steady_rows (item_at xs k).resource) (orderly k h) (ruled k h) (place_below bits xs ws steady.size k h) (rw n e)
         (finishes_seen xs (item_at xs k).resource run (place_on xs k) (item_at xs k).number n a f fin)
 
@@ -135,7 +137,7 @@ module _ (allows : ℕ → List Record → Trace → Type 0) (rule : Numbers) (l
         let n = own_number k h in
         let c = sitter_closes (item_at xs k).resource (place_on xs k) a (own k h) in
         let done =
-        laws.bounded (bit_time_of bits (item_at xs k).resource) (rows bits xs ws (item_at xs k).resource) (seen_on xs (item_at xs k).resource run) (ahead xs ws (item_at xs k).resource) t (place_on xs k) a w
+        (laws (bit_time_of bits (item_at xs k).resource)).bounded (rows bits xs ws (item_at xs k).resource) (seen_on xs (item_at xs k).resource run) (ahead xs ws (item_at xs k).resource) t (place_on xs k) a w
         (steady_rows (item_at xs k).resource) (orderly k h) (ruled k h) (on_time t keeps (item_at xs k).resource) (place_below bits xs ws steady.size k h) (rw n here) e (rw c soon) (rw c lasts)
         in
         done_unseen xs (item_at xs k).resource run (place_on xs k) (item_at xs k).number n a (a + (span ws k).to + w) (rw c at done)
@@ -230,5 +232,5 @@ module _ (allows : ℕ → List Record → Trace → Type 0) (rule : Numbers) (l
               rw e (not_late run.ticks k a w.0 all h here w.1 (omega arith) (omega arith));
         }
 
-pub sound : (allows : ℕ → List Record → Trace → Type 0) (rule : Numbers) → Lawful allows rule → Sound allows rule
+pub sound : (allows : ℕ → List Record → Trace → Type 0) (rule : Numbers) → LawfulRule allows rule → Sound allows rule
 sound allows rule laws bits xs ws finish valid steady windows run ok = kept allows rule laws bits xs valid ws steady run ok finish windows

@@ -10,8 +10,9 @@ use Rattle.items.specs.Items.{item_at}
 use Rattle.items.specs.Conditions.{bit_time_of}
 use Rattle.items.specs.Valid.{Valid}
 use Rattle.tables.specs.Demands.{Span, nowhere, span, place_on, place_of}
-use Rattle.tables.specs.Tables.{Numbers, least_at, worst_at, AllBounded, table_by, blank, lead_within, lead, first_window, next_window, swept, table, Steady, Below}
-use Rattle.tables.specs.Stands.{Lawful}
+use Rattle.service.specs.Numbers.{Numbers}
+use Rattle.tables.specs.Tables.{least_at, worst_at, AllBounded, table_by, blank, lead_within, lead, first_window, next_window, swept, table, Steady, Below}
+use Rattle.service.specs.Laws.{LawfulRule}
 use Rattle.tables.proofs.Chains.{Link, head_or_link, no_head, link_from, place_found}
 use Rattle.tables.proofs.Rowed.{rows, rows_tighter, rows_looser, rows_good, place_below}
 use Rattle.tables.proofs.Sound.{opens}
@@ -104,15 +105,15 @@ module _ (rule : Numbers) (bits : List ℕ) (xs : List Item) where
             (head_or_link bits xs valid k h)
 
     -- beside a steady table
-    module _ (allows : ℕ → List Record → Trace → Type 0) (laws : Lawful allows rule) (vs : List Span) (steady : Steady rule bits xs vs) where
+    module _ (allows : ℕ → List Record → Trace → Type 0) (laws : LawfulRule allows rule) (vs : List Span) (steady : Steady rule bits xs vs) where
       -- a table with no longer windows has the same leasts, and worsts that are no larger
       answers : (ws : List Span) → length ws ≡ length xs → ((k : ℕ) → k < length xs → (span ws k).to - (span ws k).from ≤ (span vs k).to - (span vs k).from) → (k : ℕ) → k < length xs
           → (least_at rule bits xs ws k ≡ least_at rule bits xs vs k) × ((w : ℕ) → worst_at rule bits xs vs k ≡ Some w → (v : ℕ) × ((worst_at rule bits xs ws k ≡ Some v) × (v ≤ w)))
       answers ws size less k h =
           let r = (item_at xs k).resource in
-          let good = rows_good bits xs vs steady.size rule laws.unfit valid steady.bounded r in
+          let good = rows_good bits xs vs steady.size rule (λ bit. (laws bit).unfit) valid steady.bounded r in
           let tight = rows_looser bits xs ws vs size steady.size less r in
-          laws.rising (bit_time_of bits r) (rows bits xs ws r) (rows bits xs vs r) (rows_tighter _ _ tight good) good tight (place_on xs k) (place_below bits xs ws size k h)
+          (laws (bit_time_of bits r)).rising (rows bits xs ws r) (rows bits xs vs r) (rows_tighter _ _ tight good) good tight (place_on xs k) (place_below bits xs ws size k h)
 
       below_answers : (ws : List Span) → length ws ≡ length xs → Below rule bits xs ws vs → (k : ℕ) → k < length xs
           → (least_at rule bits xs ws k ≡ least_at rule bits xs vs k) × ((w : ℕ) → worst_at rule bits xs vs k ≡ Some w → (v : ℕ) × ((worst_at rule bits xs ws k ≡ Some v) × (v ≤ w)))

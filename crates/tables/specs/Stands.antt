@@ -2,11 +2,11 @@
 use Rattle.std.specs.Prelude.{◌≡◌, ℕ, ◌+◌, ◌-◌, ◌*◌, ◌<◌, ◌≤◌, List, length, Some, None}
 use Rattle.service.specs.declared.Record.{Record}
 use Rattle.service.specs.Traces.{Trace}
-use Rattle.service.specs.Laws.{Bounded, Patient, Rising, Ranged, Unfit}
 use Rattle.items.specs.declared.Item.{Item}
 use Rattle.items.specs.Valid.{Valid}
 use Rattle.tables.specs.Demands.{Span, span}
-use Rattle.tables.specs.Tables.{Numbers, AllBounded, lead, swept, table, Steady, Below, LeastSteady, least_at, worst_at}
+use Rattle.service.specs.Numbers.{Numbers}
+use Rattle.tables.specs.Tables.{AllBounded, lead, swept, table, Steady, Below, LeastSteady, least_at, worst_at}
 use Rattle.tables.specs.Runs.{Allowed, Kept}
 
 -- the finish windows of a table
@@ -19,14 +19,6 @@ pub record TrueWindows (allows : ℕ → List Record → Trace → Type 0) (rule
   pub least : LeastSteady rule bits xs ws
   pub windows : FinishWindows rule bits xs ws finish
   pub kept : (run : Trace) → Allowed allows bits xs ws run → Kept xs finish run
-
--- the laws of a rule, at every bit time
-pub record Lawful (allows : ℕ → List Record → Trace → Type 0) (rule : Numbers) : Type 0 where
-  pub bounded : (bit : ℕ) → Bounded (allows bit) (rule.worst bit)
-  pub patient : (bit : ℕ) → Patient (allows bit) (rule.least bit)
-  pub rising : (bit : ℕ) → Rising (rule.least bit) (rule.worst bit)
-  pub ranged : (bit : ℕ) → Ranged (rule.least bit) (rule.worst bit)
-  pub unfit : (bit : ℕ) → Unfit (rule.least bit) (rule.worst bit)
 
 -- every allowed run keeps to the finish windows of a steady table
 abbrev pub Sound : (ℕ → List Record → Trace → Type 0) → Numbers → Type 0

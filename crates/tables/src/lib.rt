@@ -7,14 +7,14 @@ use service::Rule;
 
 /// Every allowed run keeps to the finish windows of a steady table, whatever the rule.
 pub fn windows_hold<R: Rule>(rule: &R) -> u8
-    ensures { Sound (R.Rule.allows rule.now) (record { least = R.Rule.least rule.now; worst = R.Rule.worst rule.now }) }
+    ensures { Sound (R.Rule.allows rule.now) (R.Rule.numbers rule.now) }
 {
     0
 }
 
 /// The sweeps come to the least steady table, or show that there is none, whatever the rule.
 pub fn sweeps_settle<R: Rule>(rule: &R) -> u8
-    ensures { Settling (R.Rule.allows rule.now) (record { least = R.Rule.least rule.now; worst = R.Rule.worst rule.now }) }
+    ensures { Settling (R.Rule.allows rule.now) (R.Rule.numbers rule.now) }
 {
     0
 }

@@ -12,7 +12,7 @@ use Rattle.items.specs.Ledger.{Visit as Told}
 use Rattle.items.specs.Journal.{State, fresh, visited, answer, WellKept, Tracks}
 use Rattle.items.specs.Stands.{Followed}
 use Rattle.items.proofs.Tracking.{visits_follow}
-use Rattle.tables.specs.Tables.{Numbers}
+use Rattle.service.specs.Numbers.{Numbers}
 use Rattle.visits.specs.declared.visit.Answer.{Answer}
 use Rattle.visits.specs.declared.visit.Visit.{Visit}
 use Rattle.visits.specs.declared.visit.Visit.TheVariants.{Undo}

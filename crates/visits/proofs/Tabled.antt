@@ -6,7 +6,7 @@ use Rattle.service.specs.Traces.{Trace, Done}
 use Rattle.items.specs.declared.Item.{Item}
 use Rattle.items.specs.Items.{item_at}
 use Rattle.tables.specs.Demands.{Span}
-use Rattle.tables.specs.Tables.{Numbers}
+use Rattle.service.specs.Numbers.{Numbers}
 use Rattle.tables.specs.Runs.{Kept}
 use Rattle.tables.specs.Stands.{TrueWindows}
 use Rattle.settle.specs.declared.WindowRow.{WindowRow}

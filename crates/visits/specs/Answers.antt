@@ -6,7 +6,8 @@ use Rattle.items.specs.declared.Item.{Item}
 use Rattle.items.specs.declared.Refusal.{Refusal}
 use Rattle.items.specs.Items.{item_at}
 use Rattle.tables.specs.Demands.{Span, span}
-use Rattle.tables.specs.Tables.{Numbers, table}
+use Rattle.service.specs.Numbers.{Numbers}
+use Rattle.tables.specs.Tables.{table}
 use Rattle.tables.specs.Stands.{TrueWindows}
 use Rattle.settle.specs.declared.WindowRow.{WindowRow}
 use Rattle.settle.specs.declared.Fault.TheVariants.{Budget, TableShort, Unbounded, Unsettled as Unsteady}

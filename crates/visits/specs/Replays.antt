@@ -4,7 +4,7 @@ use Rattle.service.specs.declared.Record.{Record}
 use Rattle.service.specs.Traces.{Trace}
 use Rattle.items.specs.declared.Item.{Item}
 use Rattle.items.specs.Ledger.{Ledger, standing, refusal}
-use Rattle.tables.specs.Tables.{Numbers}
+use Rattle.service.specs.Numbers.{Numbers}
 use Rattle.visits.specs.declared.visit.Answer.{Answer}
 use Rattle.visits.specs.declared.visit.Answer.TheVariants.{Accepted}
 use Rattle.visits.specs.declared.visit.Visit.{Visit}

@@ -1,6 +1,6 @@
 //! The rule that a switch makes of the rule below it.
 ghost use Rattle.std.specs.Prelude.{◌≡◌, ◌<◌, ◌≤◌, MatchResult};
-ghost use Rattle.rules.specs.Switches.{switched_allows, switched_least, switched_worst};
+ghost use Rattle.rules.specs.Switches.{switched_allows, switched};
 ghost use Rattle.rules.specs.Switched.{switched_lawful};
 
 use crate::switch::Switch;
@@ -35,23 +35,9 @@ impl<R> Switch<R> {
 impl<R: Rule> Rule for Switch<R> {
     ghost allows = { λ s bit records x. switched_allows s.ticks (R.Rule.allows s.below bit) records x };
 
-    ghost least = { λ s bit records place. switched_least s.ticks (R.Rule.least s.below bit) records place };
+    ghost numbers = { λ s. switched s.ticks (R.Rule.numbers s.below) };
 
-    ghost worst = { λ s bit records place. switched_worst s.ticks (R.Rule.worst s.below bit) records place };
-
-    ghost bounded = { λ s bit. (switched_lawful s.ticks _ _ _ (record { bounded = R.Rule.bounded s.below bit; patient = R.Rule.patient s.below bit; rising = R.Rule.rising s.below bit; ranged = R.Rule.ranged s.below bit; unfit = R.Rule.unfit s.below bit; beyond = R.Rule.beyond s.below bit; crowded = R.Rule.crowded s.below bit })).bounded };
-
-    ghost patient = { λ s bit. (switched_lawful s.ticks _ _ _ (record { bounded = R.Rule.bounded s.below bit; patient = R.Rule.patient s.below bit; rising = R.Rule.rising s.below bit; ranged = R.Rule.ranged s.below bit; unfit = R.Rule.unfit s.below bit; beyond = R.Rule.beyond s.below bit; crowded = R.Rule.crowded s.below bit })).patient };
-
-    ghost rising = { λ s bit. (switched_lawful s.ticks _ _ _ (record { bounded = R.Rule.bounded s.below bit; patient = R.Rule.patient s.below bit; rising = R.Rule.rising s.below bit; ranged = R.Rule.ranged s.below bit; unfit = R.Rule.unfit s.below bit; beyond = R.Rule.beyond s.below bit; crowded = R.Rule.crowded s.below bit })).rising };
-
-    ghost ranged = { λ s bit. (switched_lawful s.ticks _ _ _ (record { bounded = R.Rule.bounded s.below bit; patient = R.Rule.patient s.below bit; rising = R.Rule.rising s.below bit; ranged = R.Rule.ranged s.below bit; unfit = R.Rule.unfit s.below bit; beyond = R.Rule.beyond s.below bit; crowded = R.Rule.crowded s.below bit })).ranged };
-
-    ghost unfit = { λ s bit. (switched_lawful s.ticks _ _ _ (record { bounded = R.Rule.bounded s.below bit; patient = R.Rule.patient s.below bit; rising = R.Rule.rising s.below bit; ranged = R.Rule.ranged s.below bit; unfit = R.Rule.unfit s.below bit; beyond = R.Rule.beyond s.below bit; crowded = R.Rule.crowded s.below bit })).unfit };
-
-    ghost beyond = { λ s bit. (switched_lawful s.ticks _ _ _ (record { bounded = R.Rule.bounded s.below bit; patient = R.Rule.patient s.below bit; rising = R.Rule.rising s.below bit; ranged = R.Rule.ranged s.below bit; unfit = R.Rule.unfit s.below bit; beyond = R.Rule.beyond s.below bit; crowded = R.Rule.crowded s.below bit })).beyond };
-
-    ghost crowded = { λ s bit. (switched_lawful s.ticks _ _ _ (record { bounded = R.Rule.bounded s.below bit; patient = R.Rule.patient s.below bit; rising = R.Rule.rising s.below bit; ranged = R.Rule.ranged s.below bit; unfit = R.Rule.unfit s.below bit; beyond = R.Rule.beyond s.below bit; crowded = R.Rule.crowded s.below bit })).crowded };
+    ghost lawful = { λ s bit. switched_lawful s.ticks _ _ _ (R.Rule.lawful s.below bit) };
 
     fn respond(&self, bit_time: u8, records: &[Record], place: usize) -> Response {
         if self.ticks == 0 {

@@ -14,7 +14,7 @@ use std::alloc::Global;
 
 /// Opens a plan over these bit times and makes every visit, each under its own rule.
 pub fn replay<R: Rule>(heap: Global, bit_times: &[u8], visits: &[Visit<R>]) -> Result<Replay, Stop>
-    ensures { MatchResult result (λ done. (open_refusal bit_times.now ≡ None) × Replayed R.Rule.allows (λ rule. record { least = R.Rule.least rule; worst = R.Rule.worst rule }) bit_times.now [] visits.now done.answers.items (view done.plan).items) (Stopped bit_times.now) }
+    ensures { MatchResult result (λ done. (open_refusal bit_times.now ≡ None) × Replayed R.Rule.allows R.Rule.numbers bit_times.now [] visits.now done.answers.items (view done.plan).items) (Stopped bit_times.now) }
 {
     let mut plan = Plan::open(bit_times)?;
     let mut answers = Vec::new(heap);

@@ -43,7 +43,7 @@ fn settled<R: Rule>(
     budget: u32,
     rows: usize,
 ) -> Result<Answer, AllocError>
-    ensures { IfOk result (SettlesAs (R.Rule.allows rule.now) (record { least = R.Rule.least rule.now; worst = R.Rule.worst rule.now }) (view plan.now).bits (view plan.now).items budget rows) }
+    ensures { IfOk result (SettlesAs (R.Rule.allows rule.now) (R.Rule.numbers rule.now) (view plan.now).bits (view plan.now).items budget rows) }
 {
     let mut table = vec![in heap; BLANK; rows.min(MOST)]?;
     match settle(plan, rule, budget, table.as_mut_slice()) {
@@ -57,7 +57,7 @@ fn settled<R: Rule>(
 
 /// One visit: what is asked is done, and answered. Only want of memory leaves it without an answer.
 pub fn visit<R: Rule>(heap: Global, plan: &mut Plan, visit: &Visit<R>) -> Result<Answer, AllocError>
-    ensures answer { IfOk result (Right R.Rule.allows (λ rule. record { least = R.Rule.least rule; worst = R.Rule.worst rule }) (answer (view plan.old) (asked visit.now)) (view plan.old).bits (view plan.old).items visit.now) }
+    ensures answer { IfOk result (Right R.Rule.allows R.Rule.numbers (answer (view plan.old) (asked visit.now)) (view plan.old).bits (view plan.old).items visit.now) }
     ensures state { view plan.new ≡ visited (view plan.old) (asked visit.now) }
 {
     match visit {

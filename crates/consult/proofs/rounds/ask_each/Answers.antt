@@ -4,7 +4,7 @@ use Rattle.std.proofs.lemmas.Bool.{eq-eqb, ne_eqb}
 use Rattle.service.specs.declared.Response.{Response}
 use Rattle.items.specs.Items.{item_at}
 use Rattle.tables.specs.Demands.{items_on, place_on}
-use Rattle.tables.specs.Tables.{Numbers}
+use Rattle.service.specs.Numbers.{Numbers}
 use Rattle.consult.specs.Answers.{no_answer, answer, Says}
 use Rattle.consult.proofs.Seats.{seat_more, seat_same}
 use Rattle.consult.proofs.rounds.ask_each.Goals as goal
@@ -12,7 +12,7 @@ use Rattle.consult.proofs.rounds.ask_each.Goals.{then-items-at, else-items-at}
 
 pub loop-at-preserved : goal.loop-at-preserved
 loop-at-preserved g c =
-    let rule : Numbers = record { least = g.R.Rule.least c.args.rule.now; worst = g.R.Rule.worst c.args.rule.now } in
+    let rule : Numbers = g.R.Rule.numbers c.args.rule.now in
     let bit = c.args.bit_time in
     let rows = c.args.rows.now in
     let xs = c.args.items.now in

@@ -9,5 +9,5 @@ use Rattle.consult.proofs.rounds.ask_each.Given as goal
 abbrev pub invariant-loop-at : goal.invariant-loop-at
 invariant-loop-at g l =
     (length l.answers ≡ 256) × (l.place ≡ length (items_on l.resource (take l.at l.items))) × (l.place ≤ l.at)
-    × ((k : ℕ) → k < l.at → (item_at l.items k).resource ≡ l.resource → Says (record { least = g.R.Rule.least l.rule; worst = g.R.Rule.worst l.rule }) l.bit_time l.rows (place_on l.items k) (answer l.answers k))
+    × ((k : ℕ) → k < l.at → (item_at l.items k).resource ≡ l.resource → Says (g.R.Rule.numbers l.rule) l.bit_time l.rows (place_on l.items k) (answer l.answers k))
     × ((k : ℕ) → ((item_at l.items k).resource ≡ l.resource → ⊥) → answer l.answers k ≡ answer l.initial.answers k)

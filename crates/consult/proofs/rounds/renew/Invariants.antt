@@ -12,5 +12,5 @@ abbrev pub invariant-loop-at : goal.invariant-loop-at
 invariant-loop-at g l =
     (length l.rows ≡ 256) × (length l.answers ≡ 256)
     × ((k : ℕ) → k < length l.items → (item_at l.items k).resource ≤ l.at → get_or l.stale ((item_at l.items k).resource - 1) false ≡ true
-    → Says (record { least = g.R.Rule.least l.rule; worst = g.R.Rule.worst l.rule }) (bit_time_of l.bits (item_at l.items k).resource) (rows_on l.bits l.items (item_at l.items k).resource l.items (spans_of l.windows)) (place_on l.items k) (answer l.answers k))
+    → Says (g.R.Rule.numbers l.rule) (bit_time_of l.bits (item_at l.items k).resource) (rows_on l.bits l.items (item_at l.items k).resource l.items (spans_of l.windows)) (place_on l.items k) (answer l.answers k))
     × ((k : ℕ) → k < length l.items → get_or l.stale ((item_at l.items k).resource - 1) false ≡ false → answer l.answers k ≡ answer l.initial.answers k)

@@ -6,22 +6,10 @@ use Rattle.items.specs.Valid.{Valid}
 use Rattle.plan.specs.declared.Plan.{Plan}
 use Rattle.plan.specs.Views.{view}
 use Rattle.plan.proofs.Kept.{plan_valid}
-use Rattle.tables.specs.Stands.{Lawful}
 use Rattle.settle.specs.Settled.{Settled}
 use Rattle.settle.proofs.Fronts.{front_empty}
 use Rattle.settle.proofs.Records.{settled_count, settled_fault}
 use Rattle.settle.proofs.settling.settle.Goals as goal
-use Rattle.settle.proofs.settling.settle.Given as given
-
--- the rule's laws
-laws : (g : given.Over) (rule : g.row.R.Denot) → Lawful (g.R.Rule.allows rule) (record { least = g.R.Rule.least rule; worst = g.R.Rule.worst rule })
-laws g rule = record {
-  bounded = g.met.R.Rule.bounded rule;
-  patient = g.met.R.Rule.patient rule;
-  rising = g.met.R.Rule.rising rule;
-  ranged = g.met.R.Rule.ranged rule;
-  unfit = g.met.R.Rule.unfit rule;
-}
 
 -- what the plan tells of itself is valid
 told_valid : (p : Plan) (bits : List ℕ) (xs : List Item) → bits ≡ (view p).bits → xs ≡ (view p).items → Valid bits xs
@@ -43,7 +31,7 @@ returns-in_err-sweeps g c =
     let made = c.in_err-sweeps.ensures in
     let out = err_from_is_err_and c.from_residual.result c.from_residual.ensures.1 in
     of_plan c.args.plan.now bits xs
-    (λ b x. Settled (g.R.Rule.allows c.args.rule.now) (record { least = g.R.Rule.least c.args.rule.now; worst = g.R.Rule.worst c.args.rule.now }) b x c.args.budget c.args.table.now c.args.table.now c.from_residual.result)
+    (λ b x. Settled (g.R.Rule.allows c.args.rule.now) (g.R.Rule.numbers c.args.rule.now) b x c.args.budget c.args.table.now c.args.table.now c.from_residual.result)
     c.bit_times-bits.ensures c.items-items.ensures
     (settled_fault _ _ bits xs c.args.budget c.args.table.now c.in_err-sweeps.field-0.0 c.from_residual.result (out.1 ∙ ap Err out.2) (omega arith, omega arith) (omega arith) made.ends)
 
@@ -54,7 +42,7 @@ returns g c =
     let valid = told_valid c.args.plan.now bits xs c.bit_times-bits.ensures c.items-items.ensures in
     let made = c.in_ok-sweeps.ensures in
     of_plan c.args.plan.now bits xs
-    (λ b x. Settled (g.R.Rule.allows c.args.rule.now) (record { least = g.R.Rule.least c.args.rule.now; worst = g.R.Rule.worst c.args.rule.now }) b x c.args.budget c.args.table.now c.write.new.table (Ok c.in_ok-sweeps.sweeps))
+    (λ b x. Settled (g.R.Rule.allows c.args.rule.now) (g.R.Rule.numbers c.args.rule.now) b x c.args.budget c.args.table.now c.write.new.table (Ok c.in_ok-sweeps.sweeps))
     c.bit_times-bits.ensures c.items-items.ensures
     (settled_count _ _ bits xs c.args.budget c.in_ok-sweeps.sweeps c.steady.new.windows c.steady.new.answers c.args.table.now c.write.new.table
-    (laws g c.args.rule.now) valid (omega arith, omega arith) (omega arith) made.ends made.left (omega arith) c.write.ensures.rows c.write.ensures.rest)
+    (g.met.R.Rule.lawful c.args.rule.now) valid (omega arith, omega arith) (omega arith) made.ends made.left (omega arith) c.write.ensures.rows c.write.ensures.rest)

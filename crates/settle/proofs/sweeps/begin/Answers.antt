@@ -1,21 +1,9 @@
 -- The first table comes of the answers to empty windows.
 use Rattle.std.proofs.Common.{◌≤◌, length, sym, subst, arith}
-use Rattle.tables.specs.Stands.{Lawful}
 use Rattle.settle.proofs.Sweeping.{told_front}
 use Rattle.settle.proofs.Leads.{short_delays, least_high, front_first, told_empty}
 use Rattle.settle.proofs.Stale.{few_resources, fresh_after}
 use Rattle.settle.proofs.sweeps.begin.Goals as goal
-use Rattle.settle.proofs.sweeps.begin.Given as given
-
--- the rule's laws
-laws : (g : given.Over) (rule : g.row.R.Denot) → Lawful (g.R.Rule.allows rule) (record { least = g.R.Rule.least rule; worst = g.R.Rule.worst rule })
-laws g rule = record {
-  bounded = g.met.R.Rule.bounded rule;
-  patient = g.met.R.Rule.patient rule;
-  rising = g.met.R.Rule.rising rule;
-  ranged = g.met.R.Rule.ranged rule;
-  unfit = g.met.R.Rule.unfit rule;
-}
 
 pub lead-requires : goal.lead-requires
 lead-requires g c =
@@ -24,7 +12,7 @@ lead-requires g c =
     record {
       chained = c.requires.chained;
       delays = short_delays c.args.bits.now xs c.requires.valid;
-      leasts = λ k h. let e = told.least k h in let high = least_high c.args.bits.now xs c.requires.valid _ _ (laws g c.args.rule.now) k h in subst (λ n. n ≤ 20000000) (sym e) high;
+      leasts = λ k h. let e = told.least k h in let high = least_high c.args.bits.now xs c.requires.valid _ _ (g.met.R.Rule.lawful c.args.rule.now) k h in subst (λ n. n ≤ 20000000) (sym e) high;
     }
 
 pub returns : goal.returns

@@ -1,19 +1,7 @@
 -- How the sweeps go on and end.
 use Rattle.std.proofs.Common.{arith}
-use Rattle.tables.specs.Stands.{Lawful}
 use Rattle.settle.proofs.Moves.{moving_none, moving_more, moving_at, swept_next, still_here, still_at, narrow_next, failing_here, failing_at, table_at, told_kept}
 use Rattle.settle.proofs.sweeps.sweep_all.Goals as goal
-use Rattle.settle.proofs.sweeps.sweep_all.Given as given
-
--- the rule's laws
-laws : (g : given.Over) (rule : g.row.R.Denot) → Lawful (g.R.Rule.allows rule) (record { least = g.R.Rule.least rule; worst = g.R.Rule.worst rule })
-laws g rule = record {
-  bounded = g.met.R.Rule.bounded rule;
-  patient = g.met.R.Rule.patient rule;
-  rising = g.met.R.Rule.rising rule;
-  ranged = g.met.R.Rule.ranged rule;
-  unfit = g.met.R.Rule.unfit rule;
-}
 
 pub loop-made-init : goal.loop-made-init
 loop-made-init g c = (moving_none _ _ _, c.requires.first, c.requires.fresh)
@@ -24,12 +12,12 @@ sweep-requires g c = record {
   based = c.requires.based;
   chained = c.requires.chained;
   fresh = c.loop-made.invariant.2;
-  narrow = narrow_next _ _ _ c.loop-made.made _ c.loop-made.invariant.0 c.loop-made.invariant.1 _ (laws g c.args.rule.now) c.requires.valid;
+  narrow = narrow_next _ _ _ c.loop-made.made _ c.loop-made.invariant.0 c.loop-made.invariant.1 _ (g.met.R.Rule.lawful c.args.rule.now) c.requires.valid;
 }
 
 pub returns-in-Missing : goal.returns-in-Missing
 returns-in-Missing g c =
-    let here = failing_here _ _ _ c.loop-made.made _ c.loop-made.invariant.0 c.loop-made.invariant.1 _ (laws g c.args.rule.now) c.requires.valid c.in-Missing.place c.in-Missing.ensures in
+    let here = failing_here _ _ _ c.loop-made.made _ c.loop-made.invariant.0 c.loop-made.invariant.1 _ (g.met.R.Rule.lawful c.args.rule.now) c.requires.valid c.in-Missing.place c.in-Missing.ensures in
     record { ends = (omega arith, omega arith, failing_at _ _ _ c.loop-made.made _ _ _ (omega arith) here); left = tt }
 
 pub returns-in-Still : goal.returns-in-Still
@@ -38,7 +26,7 @@ returns-in-Still g c =
     let here = still_here _ _ _ c.loop-made.made _ c.loop-made.invariant.0 c.loop-made.invariant.1 swept.0 swept.1 in
     record {
       ends = (omega arith, omega arith, still_at _ _ _ c.loop-made.made _ (omega arith) here);
-      left = (table_at (record { least = g.R.Rule.least c.args.rule.now; worst = g.R.Rule.worst c.args.rule.now }) c.args.bits.now c.args.items.now c.loop-made.made _ (omega arith) _ _ swept.2 c.loop-made.invariant.1, told_kept _ _ _ _ _ _ swept.2 swept.3);
+      left = (table_at (g.R.Rule.numbers c.args.rule.now) c.args.bits.now c.args.items.now c.loop-made.made _ (omega arith) _ _ swept.2 c.loop-made.invariant.1, told_kept _ _ _ _ _ _ swept.2 swept.3);
     }
 
 pub loop-made-preserved : goal.loop-made-preserved

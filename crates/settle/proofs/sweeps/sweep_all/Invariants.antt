@@ -8,6 +8,6 @@ use Rattle.settle.proofs.sweeps.sweep_all.Given as goal
 -- every sweep made had a worst for each item and altered a window, its windows are there, and so are the answers that hold
 abbrev pub invariant-loop-made : goal.invariant-loop-made
 invariant-loop-made g l =
-    Moving (record { least = g.R.Rule.least l.rule; worst = g.R.Rule.worst l.rule }) l.bits l.items l.made
-    × (front (length l.items) l.windows ≡ table (record { least = g.R.Rule.least l.rule; worst = g.R.Rule.worst l.rule }) l.bits l.items l.made)
-    × Fresh (record { least = g.R.Rule.least l.rule; worst = g.R.Rule.worst l.rule }) l.bits l.items (front (length l.items) l.windows) l.stale l.answers
+    Moving (g.R.Rule.numbers l.rule) l.bits l.items l.made
+    × (front (length l.items) l.windows ≡ table (g.R.Rule.numbers l.rule) l.bits l.items l.made)
+    × Fresh (g.R.Rule.numbers l.rule) l.bits l.items (front (length l.items) l.windows) l.stale l.answers

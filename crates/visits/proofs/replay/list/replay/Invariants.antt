@@ -5,4 +5,4 @@ use Rattle.visits.proofs.replay.list.replay.Given as goal
 
 abbrev pub invariant-loop-told : goal.invariant-loop-told
 invariant-loop-told g l =
-    Upto g.R.Rule.allows (λ rule. record { least = g.R.Rule.least rule; worst = g.R.Rule.worst rule }) l.bit_times l.visits l.told-index (view l.plan) (vec_items l.answers)
+    Upto g.R.Rule.allows g.R.Rule.numbers l.bit_times l.visits l.told-index (view l.plan) (vec_items l.answers)

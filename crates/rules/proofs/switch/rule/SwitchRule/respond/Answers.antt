@@ -1,5 +1,4 @@
 use Rattle.std.proofs.Common.{◌≡◌, ℕ, ap}
-use Rattle.service.specs.Laws.{Lawful}
 use Rattle.rules.specs.Switches.{switched_least, switched_worst}
 use Rattle.rules.specs.Switched.{no_ticks}
 use Rattle.rules.proofs.switch.rule.SwitchRule.respond.Goals as goal
@@ -10,11 +9,10 @@ returns-then-self-eq0 g c =
     let bit = c.args.bit_time in
     let rs = c.args.records.now in
     let p = c.args.place in
-    let least = g.R.Rule.least s.below bit in
-    let worst = g.R.Rule.worst s.below bit in
+    let least = (g.R.Rule.numbers s.below).least bit in
+    let worst = (g.R.Rule.numbers s.below).worst bit in
     let may = g.R.Rule.allows s.below bit in
-    let laws : Lawful may least worst = record { bounded = g.met.R.Rule.bounded s.below bit; patient = g.met.R.Rule.patient s.below bit; rising = g.met.R.Rule.rising s.below bit; ranged = g.met.R.Rule.ranged s.below bit; unfit = g.met.R.Rule.unfit s.below bit; beyond = g.met.R.Rule.beyond s.below bit; crowded = g.met.R.Rule.crowded s.below bit } in
-    let same = no_ticks may least worst laws rs p in
+    let same = no_ticks may least worst (g.met.R.Rule.lawful s.below bit) rs p in
     let none : s.ticks ≡ 0 = c.if-self-eq0.true in
     let by-least = ap (λ (n : ℕ). switched_least n least rs p) none in
     let by-worst = ap (λ (n : ℕ). switched_worst n worst rs p) none in
