@@ -1,9 +1,8 @@
 -- The sums and the longest frame of the response equations: how they rise, and what they cover.
-use Rattle.std.proofs.Common.{◌≡◌, ℕ, zero, suc, ◌+◌, ◌<◌, ◌≤◌, max, Bool, true, false, cond, ◌||◌, ltb, leb, List, [], ◌∷◌, length, take, refl, subst, mul-le-mul, add-one, arith}
+use Rattle.std.proofs.Common.{◌≡◌, ℕ, zero, suc, ◌+◌, ◌<◌, ◌≤◌, max, Bool, true, false, cond, ◌||◌, ltb, leb, List, [], ◌∷◌, length, take, refl, mul-le-mul, add-one, arith}
 use Rattle.std.proofs.lemmas.Bool.{both_ways, lt-ltb, ltb-true, le-leb, or_cases, or_right}
 use Rattle.service.specs.declared.Record.{Record}
-use Rattle.service.specs.declared.row.Row.{Row}
-use Rattle.service.specs.Rows.{row, Fit, record_of}
+use Rattle.service.specs.Rows.{row, Fit}
 use Rattle.bounds.specs.Equations.{asks, summed, above, longest}
 use Rattle.bounds.proofs.Solutions.{ceiling_rises}
 use Rattle.bounds.proofs.Tallies.{tally, tally_none, tally_joins}
@@ -16,16 +15,12 @@ summed_more f priority (r ∷ rs) zero h = omega arith
 summed_more f priority (r ∷ rs) (suc i) h = omega (arith, summed_more f priority rs i (omega arith))
 
 -- the step at a row that is above the priority, and at one that is not
-module _ (f : Record → ℕ) (priority : ℕ) (rs : List Record) (i : ℕ) (w : Row) (is : record_of w ≡ row rs i) (h : i < length rs) where
-  pub summed_in : ltb w.priority priority ≡ true → summed f priority (take (i + 1) rs) ≡ summed f priority (take i rs) + f (record_of w)
-  summed_in high =
-      let test : ltb (row rs i).priority priority ≡ true = subst (λ (r : Record). ltb r.priority priority ≡ true) is high in
-      rw (add-one, is) (rw test at (summed_more f priority rs i h))
+module _ (f : Record → ℕ) (priority : ℕ) (rs : List Record) (i : ℕ) (h : i < length rs) where
+  pub summed_in : ltb (row rs i).priority priority ≡ true → summed f priority (take (i + 1) rs) ≡ summed f priority (take i rs) + f (row rs i)
+  summed_in high = rw add-one (rw high at (summed_more f priority rs i h))
 
-  pub summed_out : ltb w.priority priority ≡ false → summed f priority (take (i + 1) rs) ≡ summed f priority (take i rs)
-  summed_out low =
-      let test : ltb (row rs i).priority priority ≡ false = subst (λ (r : Record). ltb r.priority priority ≡ false) is low in
-      rw add-one (omega (arith, rw test at (summed_more f priority rs i h)))
+  pub summed_out : ltb (row rs i).priority priority ≡ false → summed f priority (take (i + 1) rs) ≡ summed f priority (take i rs)
+  summed_out low = rw add-one (omega (arith, rw low at (summed_more f priority rs i h)))
 
 -- fewer rows have no larger sum
 pub summed_take : (f : Record → ℕ) (priority : ℕ) (rs : List Record) (i : ℕ) → summed f priority (take i rs) ≤ summed f priority rs

@@ -5,15 +5,11 @@ ghost use Rattle.bounds.specs.Known.{KnownResponses};
 ghost use Rattle.bounds.specs.Stands.{WorstsAreSmallest};
 
 /// The worst responses are the smallest solutions of their equations, where these fit the period.
-pub fn worsts_are_smallest() -> u8
+pub fn worsts_are_smallest()
     ensures { WorstsAreSmallest }
-{
-    0
-}
+{}
 
 /// Known responses, found by the equations.
-pub fn known_responses_stand() -> u8
+pub fn known_responses_stand()
     ensures { KnownResponses }
-{
-    0
-}
+{}

@@ -5,15 +5,13 @@ ghost use Rattle.known.specs.Once.{OneWay};
 ghost use Rattle.known.specs.Stands.{KnownPlans};
 
 /// Known plans, with the sweeps and finish windows or the fault that a settle of each comes to.
-pub fn known_plans_stand() -> u8
+pub fn known_plans_stand()
     ensures { KnownPlans }
 {
-    0
 }
 
 /// What a settle comes to is its only answer, whatever the rule and the plan.
-pub fn settles_one_way() -> u8
+pub fn settles_one_way()
     ensures { OneWay }
 {
-    0
 }

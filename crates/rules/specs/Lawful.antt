@@ -3,7 +3,7 @@ use Rattle.std.specs.Prelude.{◌≡◌, ℕ, ◌<◌, true, List, length, Optio
 use Rattle.std.proofs.Common.{ap, ◌∙◌}
 use Rattle.service.specs.declared.Record.{Record}
 use Rattle.service.specs.declared.row.Row.{Row}
-use Rattle.service.specs.Rows.{row, Fit, record_of}
+use Rattle.service.specs.Rows.{row, Fit}
 use Rattle.service.specs.Laws.{Lawful}
 use Rattle.service.specs.Answers.{admitted, answered_least, answered_worst}
 use Rattle.service.proofs.Checks.{Admits, admits}
@@ -26,8 +26,8 @@ pub works : (rs : List Record) (p : ℕ) → admitted rs p ≡ true → Workable
 works rs p e = let a : Admits rs p = admits rs p e in (record { all = a.all; few = a.few }, a.place)
 
 -- and answers them
-pub own_answers : (worst : List Record → ℕ → Option ℕ) (rs : List Record) (p : ℕ) (w : Row) → (admitted rs p ≡ true) × (record_of w ≡ row rs p)
-    → (w.least ≡ answered_least least_demand rs p) × (worst rs p ≡ answered_worst worst rs p)
+pub own_answers : (worst : List Record → ℕ → Option ℕ) (rs : List Record) (p : ℕ) (w : Row) → (admitted rs p ≡ true) × (w.told ≡ row rs p)
+    → (w.told.least ≡ answered_least least_demand rs p) × (worst rs p ≡ answered_worst worst rs p)
 own_answers worst rs p w told = let on : admitted rs p ≡ true = told.0 in (ap (λ (r : Record). r.least) told.1 ∙ rw on refl, rw on refl)
 
 pub processor_lawful : Lawful Processor (answered_least least_demand) (answered_worst processor_worst)

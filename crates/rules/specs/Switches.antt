@@ -1,5 +1,6 @@
 -- What a switch makes of the rule below it.
-use Rattle.std.specs.Prelude.{◌≡◌, ℕ, ◌+◌, ◌*◌, Bool, true, cond, ◌&&◌, List, [], ◌∷◌, map, None, Option, nat_le}
+use Rattle.std.specs.Prelude.{◌≡◌, ℕ, ◌+◌, ◌*◌, Bool, true, cond, List, map, None, Option, nat_le}
+use Rattle.std.specs.List.{list_all}
 use Rattle.service.specs.declared.Record.{Record}
 use Rattle.service.specs.Traces.{Trace}
 use Rattle.service.specs.Rows.{row}
@@ -15,8 +16,7 @@ all_longer s rs = map (longer s) rs
 
 -- whether no record passes 20,000,000 by that
 abbrev pub roomy : ℕ → List Record → Bool
-roomy s [] = true
-roomy s (r ∷ rs) = nat_le (r.greatest + 2 * s) 20000000 && roomy s rs
+roomy s rs = list_all (λ r. nat_le (r.greatest + 2 * s) 20000000) rs
 
 -- the runs of the rule below over the longer records; none where a record would pass
 abbrev pub switched_allows : ℕ → (List Record → Trace → Type 0) → List Record → Trace → Type 0

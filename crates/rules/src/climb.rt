@@ -4,8 +4,8 @@ ghost use Rattle.service.specs.declared.Record.{Record};
 ghost use Rattle.bounds.specs.Numbers.{Rises, Under, Smallest, NoneUpTo};
 ghost use Rattle.rules.specs.Workable.{Workable};
 
+use crate::rows::Rows;
 use crate::ticks::Ticks;
-use service::Record;
 
 /// How many steps a climb takes before it asks for a leap.
 const PATIENCE: u32 = 16;
@@ -15,40 +15,36 @@ pub trait Step {
     /// Where the step leads from a number.
     ghost to: { Self → List Record → ℕ → ℕ };
 
-    fn step(&self, records: &[Record], n: Ticks) -> u64
-        requires { Workable records.now }
-        ensures { result ≡ to self.now records.now n.count };
+    fn step(&self, rows: &Rows, n: Ticks) -> u64
+        ensures { result ≡ to self.now rows.now.records.now n.count };
 
     /// A number at hand that no solution is below.
-    fn start(&self, records: &[Record]) -> u64
-        requires { Workable records.now }
-        ensures { Under (to self.now records.now) result };
+    fn start(&self, rows: &Rows) -> u64
+        ensures { Under (to self.now rows.now.records.now) result };
 
     /// Another such number, larger where a climb is long, and dearer.
-    fn leap(&self, records: &[Record]) -> u64
-        requires { Workable records.now }
-        ensures { Under (to self.now records.now) result };
+    fn leap(&self, rows: &Rows) -> u64
+        ensures { Under (to self.now rows.now.records.now) result };
 
     ghost rises: { (s : Self) (rs : List Record) → Workable rs → Rises (to s rs) };
 }
 
 /// The smallest solution up to the limit, or none if there is none up to it.
-pub(crate) fn climb<S: Step>(s: &S, records: &[Record], limit: Ticks) -> Option<Ticks>
-    requires { Workable records.now }
-    ensures { MatchOption result (NoneUpTo (S.Step.to s.now records.now) limit.count) (λ n. Smallest (S.Step.to s.now records.now) n.count × (n.count ≤ limit.count)) }
+pub(crate) fn climb<S: Step>(s: &S, rows: &Rows, limit: Ticks) -> Option<Ticks>
+    ensures { MatchOption result (NoneUpTo (S.Step.to s.now rows.now.records.now) limit.count) (λ n. Smallest (S.Step.to s.now rows.now.records.now) n.count × (n.count ≤ limit.count)) }
 {
     let most = u64::from(limit.count);
-    let mut n = s.start(records);
+    let mut n = s.start(rows);
     let mut patience = PATIENCE;
     'rise: while n <= most {
         let here = Ticks { count: n as u32 };
-        let next = s.step(records, here);
+        let next = s.step(rows, here);
         if next == n {
             return Some(here);
         }
         patience = patience.saturating_sub(1);
         n = if patience == 1 {
-            next.max(s.leap(records))
+            next.max(s.leap(rows))
         } else {
             next
         };

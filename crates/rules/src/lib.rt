@@ -7,5 +7,6 @@ pub mod demand;
 pub mod either;
 pub mod pair;
 pub mod processor;
+pub mod rows;
 pub mod switch;
 pub mod ticks;

@@ -2,12 +2,11 @@
 ghost use Rattle.std.specs.Prelude.{◌≡◌, ◌<◌, length};
 ghost use Rattle.bounds.specs.Equations.{processor_worst};
 ghost use Rattle.bounds.specs.Runs.{Processor as ProcessorRun};
-ghost use Rattle.rules.specs.Workable.{Workable};
 ghost use Rattle.rules.specs.Answers.{processor_numbers};
 ghost use Rattle.rules.specs.Lawful.{processor_lawful};
 
 use crate::demand::Demand;
-use crate::demand::sums::row_at;
+use crate::rows::Rows;
 use service::row::Row;
 use service::{Record, Response, Rule};
 
@@ -15,17 +14,17 @@ use service::{Record, Response, Rule};
 pub struct Processor;
 
 /// The worst response of the row at a place.
-fn worst_at(records: &[Record], place: usize) -> Option<u32>
-    requires { (Workable records.now) × (place < length records.now) }
-    ensures { result ≡ processor_worst records.now place }
+fn worst_at(rows: &Rows, place: usize) -> Option<u32>
+    requires { place < length rows.now.records.now }
+    ensures { result ≡ processor_worst rows.now.records.now place }
 {
-    let row = row_at(records, place);
+    let row = rows.row(place);
     let demand = Demand {
-        priority: row.priority,
-        base: row.greatest,
+        priority: row.told.priority,
+        base: row.told.greatest,
         more: 0,
     };
-    demand.response(records, &row, 0)
+    demand.response(rows, &row, 0)
 }
 
 impl Rule for Processor {
@@ -39,8 +38,8 @@ impl Rule for Processor {
         match Row::meant(records, place) {
             Err(answer) => answer,
             Ok(row) => Response {
-                least: row.least,
-                worst: worst_at(records, place),
+                least: row.told.least,
+                worst: worst_at(&Rows { records }, place),
             },
         }
     }

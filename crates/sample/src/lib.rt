@@ -5,8 +5,7 @@ ghost use Rattle.sample.specs.Stands.{Sample};
 
 /// A plan with a chain over two processors and a bus, its steady table, and an allowed run of it in which both arrivals
 /// come to the end of the chain.
-pub fn sample_stands() -> u8
+pub fn sample_stands()
     ensures { Sample }
 {
-    0
 }

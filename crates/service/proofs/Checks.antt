@@ -5,19 +5,8 @@ use Rattle.std.specs.Option.{ok_or}
 use Rattle.service.specs.declared.Record.{Record}
 use Rattle.service.specs.declared.Response.{Response}
 use Rattle.service.specs.declared.row.Row.{Row}
-use Rattle.service.specs.Rows.{row, IsRow, Fit, record_of}
+use Rattle.service.specs.Rows.{row, IsRow, Fit}
 use Rattle.service.specs.Answers.{is_row, all_rows, admitted, Refused}
-
--- a row's type says that its record is one
-pub row_is : (w : Row) → IsRow (record_of w)
-row_is w = record {
-  period_low = w.period_low;
-  period_high = w.period_high;
-  jitter_high = w.jitter_high;
-  least_low = w.least_low;
-  least_high = w.least_high;
-  greatest_high = w.greatest_high;
-}
 
 pub row_since : (r : Record) → is_row r ≡ true → IsRow r
 row_since r e =
@@ -98,23 +87,23 @@ pub admit : (rs : List Record) (p : ℕ) → Admits rs p → admitted rs p ≡ t
 admit rs p a = rw (a.all, lt-ltb p (length rs) a.place, le-leb (length rs) 256 a.few)
 
 -- what the check of one record says
-module _ (o : Option Row) (r : Record) (cases : MatchOption o (IsRow r → ⊥) (λ w. record_of w ≡ r)) where
+module _ (o : Option Row) (r : Record) (cases : MatchOption o (IsRow r → ⊥) (λ w. w.told ≡ r)) where
   pub of_some : is_some o ≡ true → IsRow r
   of_some e = go o cases e
     where
-      go : (o : Option Row) → MatchOption o (IsRow r → ⊥) (λ w. record_of w ≡ r) → is_some o ≡ true → IsRow r
+      go : (o : Option Row) → MatchOption o (IsRow r → ⊥) (λ w. w.told ≡ r) → is_some o ≡ true → IsRow r
       go None none e = absurd (both_ways false refl e)
-      go (Some w) same e = subst IsRow same (row_is w)
+      go (Some w) same e = subst IsRow same w.fits
 
   pub of_none : is_some o ≡ false → IsRow r → ⊥
   of_none e = go o cases e
     where
-      go : (o : Option Row) → MatchOption o (IsRow r → ⊥) (λ w. record_of w ≡ r) → is_some o ≡ false → IsRow r → ⊥
+      go : (o : Option Row) → MatchOption o (IsRow r → ⊥) (λ w. w.told ≡ r) → is_some o ≡ false → IsRow r → ⊥
       go None none e = none
       go (Some w) same e = absurd (both_ways true e refl)
 
 -- the row that is found at a place to which a rule is open
-pub found : (rs : List Record) (p : ℕ) (o : Option Row) (e : Response) → Admits rs p → MatchOption o (IsRow (row rs p) → ⊥) (λ w. record_of w ≡ row rs p)
-    → MatchResult (ok_or o e) (λ w. (admitted rs p ≡ true) × (record_of w ≡ row rs p)) (Refused rs p)
+pub found : (rs : List Record) (p : ℕ) (o : Option Row) (e : Response) → Admits rs p → MatchOption o (IsRow (row rs p) → ⊥) (λ w. w.told ≡ row rs p)
+    → MatchResult (ok_or o e) (λ w. (admitted rs p ≡ true) × (w.told ≡ row rs p)) (Refused rs p)
 found rs p None e open_to none = absurd (none (rows_since rs open_to.all p open_to.place))
 found rs p (Some w) e open_to same = (admit rs p open_to, same)

@@ -1,5 +1,6 @@
 -- What every rule answers to bad input, and where it has numbers of its own to give.
-use Rattle.std.specs.Prelude.{◌≡◌, ℕ, Bool, true, false, cond, ◌&&◌, List, [], ◌∷◌, length, None, Option, nat_le, nat_lt}
+use Rattle.std.specs.Prelude.{◌≡◌, ℕ, Bool, false, cond, ◌&&◌, List, length, None, Option, nat_le, nat_lt}
+use Rattle.std.specs.List.{list_all}
 use Rattle.service.specs.declared.Record.{Record}
 use Rattle.service.specs.declared.Response.{Response}
 use Rattle.service.specs.Rows.{row}
@@ -10,8 +11,7 @@ is_row r = nat_le 1 r.period && (nat_le r.period 10000000 && (nat_le r.jitter 10
 
 -- whether every record can
 abbrev pub all_rows : List Record → Bool
-all_rows [] = true
-all_rows (r ∷ rs) = is_row r && all_rows rs
+all_rows rs = list_all is_row rs
 
 -- whether a rule has numbers of its own to give: every record is a row, the place is among them, and they are 256 at most
 abbrev pub admitted : List Record → ℕ → Bool

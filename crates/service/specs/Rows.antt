@@ -1,7 +1,6 @@
 -- What a rule is told of one resource: a list of records, each of which may be a row.
 use Rattle.std.specs.Prelude.{◌≡◌, ℕ, ◌<◌, ◌≤◌, List, length, slice_index_or}
 use Rattle.service.specs.declared.Record.{Record}
-use Rattle.service.specs.declared.row.Row.{Row}
 
 -- the bounds within which a record is a row
 pub record IsRow (r : Record) : Type 0 where
@@ -11,10 +10,6 @@ pub record IsRow (r : Record) : Type 0 where
   pub least_low : 1 ≤ r.least
   pub least_high : r.least ≤ r.greatest
   pub greatest_high : r.greatest ≤ 20000000
-
--- the record that a row was made from
-abbrev pub record_of : Row → Record
-record_of w = record { priority = w.priority; period = w.period; jitter = w.jitter; least = w.least; greatest = w.greatest }
 
 -- what stands beyond a list
 abbrev pub no_record : Record

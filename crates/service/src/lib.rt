@@ -1,7 +1,7 @@
 //! What a service rule is: what it is told of one resource, what it answers, and what it must show.
 #![tactic(auto)]
 
-ghost use Rattle.std.specs.Prelude.{◌≡◌, ℕ, List};
+ghost use Rattle.std.specs.Prelude.{◌≡◌, ℕ, List, None};
 ghost use Rattle.service.specs.Traces.{Trace};
 ghost use Rattle.service.specs.Numbers.{Numbers};
 ghost use Rattle.service.specs.Laws.{LawfulRule};
@@ -10,7 +10,7 @@ ghost use Rattle.service.specs.declared.Record.{Record};
 pub mod row;
 
 /// What a rule is told of one item on its resource, before it is checked. Times are in ticks.
-#[derive(Clone, Copy)]
+#[derive(Clone, Copy, Default)]
 #[repr(C)]
 pub struct Record {
     /// The smaller goes first.
@@ -30,6 +30,16 @@ pub struct Record {
 pub struct Response {
     pub least: u32,
     pub worst: Option<u32>,
+}
+
+impl Response {
+    /// A least response with no bound.
+    pub fn unbounded(least: u32) -> Response
+        ensures least { result.least ≡ least }
+        ensures worst { result.worst ≡ None }
+    {
+        Response { least, worst: None }
+    }
 }
 
 /// A way to serve the jobs of one resource: the runs that it allows, and the two numbers that hold in all of them.

@@ -1,8 +1,8 @@
 //! The rows under a switch: each greatest demand is longer by twice its ticks.
 ghost use Rattle.std.specs.Prelude.{◌≡◌, ◌+◌, ◌*◌, ◌≤◌, true, length, take};
 ghost use Rattle.rules.specs.Switches.{longer, roomy, all_longer};
-ghost use Rattle.rules.specs.Workable.{Workable};
 
+use crate::rows::Rows;
 use service::Record;
 
 /// The largest demand of a row.
@@ -13,12 +13,7 @@ pub(crate) fn has_room(records: &[Record], ticks: u16) -> bool
     ensures { result ≡ roomy ticks records.now }
 {
     let most = HEAVIEST - 2 * u32::from(ticks);
-    for told in records {
-        if told.greatest > most {
-            return false;
-        }
-    }
-    true
+    records.iter().all(|told| told.greatest <= most)
 }
 
 /// The record with twice the ticks on its greatest demand.
@@ -31,11 +26,11 @@ fn lengthened(mut told: Record, ticks: u16) -> Record
 }
 
 /// The longer rows, in the front of the scratch.
-pub(crate) fn lengthen(records: &[Record], ticks: u16, scratch: &mut [Record; 256])
-    requires { (Workable records.now) × (roomy ticks records.now ≡ true) }
-    ensures { take (length records.now) scratch.new ≡ all_longer ticks records.now }
+pub(crate) fn lengthen(rows: &Rows, ticks: u16, scratch: &mut [Record; 256])
+    requires { roomy ticks rows.now.records.now ≡ true }
+    ensures { take (length rows.now.records.now) scratch.new ≡ all_longer ticks rows.now.records.now }
 {
-    for at in 0..records.len() {
-        scratch[at] = lengthened(records[at], ticks);
+    for (at, told) in rows.records.iter().enumerate() {
+        scratch[at] = lengthened(*told, ticks);
     }
 }

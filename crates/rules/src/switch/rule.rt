@@ -3,6 +3,7 @@ ghost use Rattle.std.specs.Prelude.{◌≡◌, ◌<◌, ◌≤◌, MatchResult};
 ghost use Rattle.rules.specs.Switches.{switched_allows, switched};
 ghost use Rattle.rules.specs.Switched.{switched_lawful};
 
+use crate::rows::Rows;
 use crate::switch::Switch;
 use crate::switch::rows::{has_room, lengthen};
 use service::row::Row;
@@ -10,15 +11,6 @@ use service::{Record, Response, Rule};
 
 /// The most ticks of a switch.
 const MOST: u16 = 1000;
-
-/// What stands in the scratch before it is filled.
-const BLANK: Record = Record {
-    priority: 0,
-    period: 0,
-    jitter: 0,
-    least: 0,
-    greatest: 0,
-};
 
 impl<R> Switch<R> {
     /// A switch of 0 to 1,000 ticks over a rule; beyond that the rule is handed back.
@@ -47,13 +39,10 @@ impl<R: Rule> Rule for Switch<R> {
             Err(answer) => answer,
             Ok(row) => {
                 if !has_room(records, self.ticks) {
-                    return Response {
-                        least: row.least,
-                        worst: None,
-                    };
+                    return Response::unbounded(row.told.least);
                 }
-                let mut scratch = [BLANK; 256];
-                lengthen(records, self.ticks, &mut scratch);
+                let mut scratch = [Record::default(); 256];
+                lengthen(&Rows { records }, self.ticks, &mut scratch);
                 self.below
                     .respond(bit_time, &scratch[0..records.len()], place)
             }

@@ -1,7 +1,7 @@
 //! Rows from records: the check of one, of all, and of what a rule is told.
-ghost use Rattle.std.specs.Prelude.{◌≡◌, true, false, None, MatchOption, MatchResult};
-ghost use Rattle.service.specs.Rows.{row, IsRow, record_of};
-ghost use Rattle.service.specs.Answers.{all_rows, admitted, Refused};
+ghost use Rattle.std.specs.Prelude.{◌≡◌, true, is_some, MatchOption, MatchResult};
+ghost use Rattle.service.specs.Rows.{row, IsRow};
+ghost use Rattle.service.specs.Answers.{is_row, all_rows, admitted, Refused};
 
 use crate::row::Row;
 use crate::{Record, Response};
@@ -18,7 +18,8 @@ const MOST_ROWS: usize = 256;
 impl Row {
     /// The row of a record, if the record can be one.
     pub fn of(from: &Record) -> Option<Row>
-        ensures { MatchOption result (IsRow from.now → ⊥) (λ w. record_of w ≡ from.now) }
+        ensures row { MatchOption result (IsRow from.now → ⊥) (λ w. w.told ≡ from.now) }
+        ensures test { is_some result ≡ is_row from.now }
     {
         if from.period < 1 || from.period > LONGEST || from.jitter > LONGEST {
             return None;
@@ -26,35 +27,20 @@ impl Row {
         if from.least < 1 || from.least > from.greatest || from.greatest > HEAVIEST {
             return None;
         }
-        Some(Row {
-            priority: from.priority,
-            period: from.period,
-            jitter: from.jitter,
-            least: from.least,
-            greatest: from.greatest,
-        })
+        Some(Row { told: *from })
     }
 
     /// The row at the place meant, or what every rule answers where it has no numbers of its own to give.
     pub fn meant(records: &[Record], place: usize) -> Result<Row, Response>
-        ensures { MatchResult result (λ w. (admitted records.now place ≡ true) × (record_of w ≡ row records.now place)) (Refused records.now place) }
+        ensures { MatchResult result (λ w. (admitted records.now place ≡ true) × (w.told ≡ row records.now place)) (Refused records.now place) }
     {
         if !are_rows(records) || place >= records.len() {
-            return Err(Response {
-                least: 1,
-                worst: None,
-            });
+            return Err(Response::unbounded(1));
         }
         if records.len() > MOST_ROWS {
-            return Err(Response {
-                least: records[place].least,
-                worst: None,
-            });
+            return Err(Response::unbounded(records[place].least));
         }
-        Row::of(&records[place]).ok_or(Response {
-            least: 1,
-            worst: None,
-        })
+        Row::of(&records[place]).ok_or(Response::unbounded(1))
     }
 }
 
@@ -62,10 +48,5 @@ impl Row {
 pub fn are_rows(records: &[Record]) -> bool
     ensures { result ≡ all_rows records.now }
 {
-    for record in records {
-        if Row::of(record).is_none() {
-            return false;
-        }
-    }
-    true
+    records.iter().all(|told| Row::of(told).is_some())
 }

@@ -6,10 +6,10 @@ use Rattle.rules.proofs.climb.climb.Goals as goal
 use Rattle.rules.proofs.climb.climb.Goals.{Else-next-n}
 
 -- what a step that goes on gives: a larger number that no solution is below
-higher : (g : given.Over) (c : Else-next-n g) → (c.rise.n < c.step-next.result) × Under (g.S.Step.to c.args.s.now c.args.records.now) c.step-next.result
+higher : (g : given.Over) (c : Else-next-n g) → (c.rise.n < c.step-next.result) × Under (g.S.Step.to c.args.s.now c.args.rows.now.records.now) c.step-next.result
 higher g c =
-    let to : ℕ → ℕ = g.S.Step.to c.args.s.now c.args.records.now in
-    let rises : Rises to = g.met.S.Step.rises c.args.s.now c.args.records.now c.requires in
+    let to : ℕ → ℕ = g.S.Step.to c.args.s.now c.args.rows.now.records.now in
+    let rises : Rises to = g.met.S.Step.rises c.args.s.now c.args.rows.now.records.now c.args.rows.now.workable in
     let is : c.step-next.result ≡ to c.rise.n = c.step-next.ensures in
     let up : c.rise.n ≤ to c.rise.n = climbs to rises c.rise.n c.rise.invariant.0 in
     (omega arith, subst (Under to) (sym is) (next_under to rises c.rise.n c.rise.invariant.0))

@@ -6,21 +6,21 @@ use Rattle.rules.specs.Longer.{room_at}
 use Rattle.rules.proofs.switch.rows.lengthen.Goals as goal
 
 pub lengthened-requires : goal.lengthened-requires
-lengthened-requires c = room_at c.args.ticks c.args.records.now c.requires.1 c.loop-at.at c.loop-at-test.true
+lengthened-requires c = room_at c.args.ticks c.args.rows.now.records.now c.requires c.loop-at.at c.loop-at-test.true
 
 pub loop-at-preserved : goal.loop-at-preserved
 loop-at-preserved c =
     let i = c.loop-at.at in
-    let r = row c.args.records.now i in
-    let inside : i < length c.loop-at.scratch = omega (arith, c.requires.0.few) in (
+    let r = row c.args.rows.now.records.now i in
+    let inside : i < length c.loop-at.scratch = omega (arith, c.args.rows.now.workable.few) in (
       length-set _ _ _ ∙ c.loop-at.invariant.0,
       take_more_set c.loop-at.scratch i _ inside
           ∙ ap (λ x. take i c.loop-at.scratch ++ x ∷ []) c.lengthened.ensures
           ∙ ap (λ l. l ++ longer c.args.ticks r ∷ []) c.loop-at.invariant.1
-          ∙ sym (map_more (longer c.args.ticks) c.args.records.now i no_record c.loop-at-test.true),
+          ∙ sym (map_more (longer c.args.ticks) c.args.rows.now.records.now i no_record c.loop-at-test.true),
     )
 
 pub returns : goal.returns
 returns c =
-    let end : c.loop-at.at ≡ length c.args.records.now = omega arith in
+    let end : c.loop-at.at ≡ length c.args.rows.now.records.now = omega arith in
     ap (λ n. take n c.loop-at.scratch) (sym end) ∙ c.loop-at.invariant.1 ∙ ap (all_longer c.args.ticks) (take_all _ _ c.loop-at-test.false)

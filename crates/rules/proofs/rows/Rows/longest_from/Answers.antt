@@ -4,12 +4,12 @@ use Rattle.std.proofs.lemmas.Bool.{le-leb, lt-leb}
 use Rattle.service.specs.Rows.{row}
 use Rattle.bounds.specs.Equations.{longest}
 use Rattle.bounds.proofs.Sums.{longest_more}
-use Rattle.rules.proofs.bus.longest_from.Goals as goal
-use Rattle.rules.proofs.bus.longest_from.Goals.{then-priority-told, else-priority-told}
+use Rattle.rules.proofs.rows.Rows.longest_from.Goals as goal
+use Rattle.rules.proofs.rows.Rows.longest_from.Goals.{then-priority-told, else-priority-told}
 
 pub loop-told-preserved : goal.loop-told-preserved
 loop-told-preserved c =
-    let rs = c.args.records.now in
+    let rs = c.args.self.now.records.now in
     let i = c.loop-told.told-index in
     let more = longest_more c.args.priority rs i c.loop-told-test.true in
     elim c.if-priority-told.branch [
