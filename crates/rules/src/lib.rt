@@ -5,6 +5,7 @@ pub mod bus;
 pub mod climb;
 pub mod demand;
 pub mod either;
+pub mod machine;
 pub mod pair;
 pub mod processor;
 pub mod rows;

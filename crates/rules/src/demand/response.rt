@@ -8,6 +8,7 @@ use crate::climb::climb;
 use crate::demand::Demand;
 use crate::rows::Rows;
 use crate::ticks::Ticks;
+use service::Record;
 use service::row::Row;
 
 impl Demand {
@@ -15,11 +16,8 @@ impl Demand {
     pub(crate) fn response(&self, rows: &Rows, row: &Row, after: u32) -> Option<u32>
         ensures { result ≡ fitting row.now.told (plus after (solution (demanded self.now rows.now.records.now) row.now.told.period)) }
     {
-        let room = row
-            .told
-            .period
-            .checked_sub(row.told.jitter)?
-            .checked_sub(after)?;
+        let Record { period, jitter, .. } = row.told;
+        let room = period.checked_sub(jitter)?.checked_sub(after)?;
         let wait = climb(self, rows, Ticks { count: room })?;
         Some(wait.count + after)
     }
