@@ -1,5 +1,5 @@
 -- The first table from the answers to empty windows.
-use Rattle.std.proofs.Common.{◌≡◌, ℕ, zero, suc, ◌+◌, ◌-◌, ◌<◌, ◌≤◌, List, length, sym, refl, ap, ◌∙◌, subst, ⊎_elim, not-suc-le-zero, arith}
+use Rattle.std.proofs.Common.{◌≡◌, ℕ, zero, suc, ◌+◌, ◌-◌, ◌<◌, ◌≤◌, List, length, sym, ap, ◌∙◌, subst, ⊎_elim, not-suc-le-zero, arith}
 use lib.ListN.{length-replicate, get_or-replicate}
 use Rattle.service.specs.declared.Record.{Record}
 use Rattle.service.specs.declared.Response.{Response}
@@ -10,7 +10,7 @@ use Rattle.items.specs.Conditions.{bit_time_of}
 use Rattle.items.specs.Valid.{Valid}
 use Rattle.tables.specs.Demands.{Span, nowhere, span, place_on}
 use Rattle.service.specs.Numbers.{Numbers}
-use Rattle.tables.specs.Tables.{least_at, blank, lead_within, lead, first_window, first_table}
+use Rattle.tables.specs.Tables.{least_at, blank, lead, first_window, first_table}
 use Rattle.service.specs.Laws.{LawfulRule}
 use Rattle.tables.proofs.Chains.{Link, head_or_link, no_head}
 use Rattle.tables.proofs.Rowed.{rows, place_below}

@@ -1,5 +1,5 @@
 -- The tables that a settle meets keep in range: their records are rows, and their windows open and close in bounds.
-use Rattle.std.proofs.Common.{◌≡◌, ℕ, zero, suc, ◌+◌, ◌-◌, ◌*◌, ◌<◌, ◌≤◌, List, length, Some, sym, refl, ap, ◌∙◌, ⊎_elim, not-suc-le-zero, mul-le-mul, arith}
+use Rattle.std.proofs.Common.{◌≡◌, ℕ, zero, suc, ◌+◌, ◌-◌, ◌*◌, ◌<◌, ◌≤◌, List, length, Some, sym, ap, ◌∙◌, ⊎_elim, not-suc-le-zero, mul-le-mul, arith}
 use lib.ListN.{length-replicate, get_or-replicate}
 use Rattle.service.specs.declared.Record.{Record}
 use Rattle.service.specs.Traces.{Trace}
@@ -15,7 +15,7 @@ use Rattle.service.specs.Numbers.{Numbers}
 use Rattle.tables.specs.Tables.{least_at, worst_at, AllBounded, blank, lead_within, lead, first_window, first_table, next_window, swept, table}
 use Rattle.service.specs.Laws.{LawfulRule}
 use Rattle.tables.specs.Stands.{Reached, InRange}
-use Rattle.tables.proofs.Chains.{Link, head_or_link, period_head, period_link}
+use Rattle.tables.proofs.Chains.{head_or_link, period_head, period_link}
 use Rattle.tables.proofs.Rowed.{rows, sitter_of, sitter_row, rows_apart, rows_looser, place_below, place_row}
 use Rattle.tables.proofs.Swept.{by_head, by_link, lead_head, lead_link, lead_none, lead_next, table_length}
 

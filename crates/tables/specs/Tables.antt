@@ -1,16 +1,11 @@
 -- Tables of release windows, the sweep, and what makes a table steady. `least` and `worst` are what a rule answers.
 use Rattle.std.specs.Prelude.{◌≡◌, ℕ, zero, suc, ◌+◌, ◌<◌, ◌≤◌, cond, List, map, length, replicate, Some, None, Option, ◌==◌}
 use Rattle.std.specs.List.{range_with_len}
-use Rattle.service.specs.declared.Record.{Record}
+use Rattle.service.specs.Numbers.{Numbers}
 use Rattle.items.specs.declared.Item.{Item}
 use Rattle.items.specs.Items.{item_at}
 use Rattle.items.specs.Conditions.{bit_time_of}
 use Rattle.tables.specs.Demands.{Span, nowhere, span, rows_on, place_on, place_of}
-
--- what a rule answers: its least and worst response for the row at a place
-pub record Numbers : Type 0 where
-  pub least : ℕ → List Record → ℕ → ℕ
-  pub worst : ℕ → List Record → ℕ → Option ℕ
 
 -- a worst, or 0 if there is none
 abbrev pub worst_or_0 : Option ℕ → ℕ
