@@ -11,7 +11,7 @@ pub mod verdict;
 mod windows;
 
 /// One row of a caller's table: an item's release window and its finish window, counted from the arrival of its chain.
-#[derive(Clone, Copy)]
+#[derive(Clone, Copy, Default)]
 pub struct WindowRow {
     pub number: u16,
     pub open: u64,

@@ -4,11 +4,9 @@ ghost use Rattle.timing.specs.Told.{Told};
 
 use crate::outcome::Outcome;
 use files::read::read;
-use rules::bus::Bus;
-use rules::pair::Pair;
-use rules::processor::Processor;
-use rules::switch::Switch;
+use rules::machine::{Machine, machine};
 use std::alloc::{AllocError, Global};
+use texts::SentBack;
 use visits::visit::answers::visit;
 use visits::visit::{Answer, Visit};
 
@@ -18,16 +16,13 @@ const BUDGET: u32 = 10_000;
 /// The rows of the table: as many as a plan can have items.
 const ROWS: usize = 256;
 
-/// Processors under a switch, and buses.
-pub type LineRule = Pair<Switch<Processor>, Bus>;
-
 /// The rule with a switch of 0 ticks.
-pub fn line_rule() -> LineRule
+pub fn line_rule() -> Machine
     ensures { result.first.ticks ≡ 0 }
 {
-    match Switch::over(Processor, 0) {
-        Ok(first) => Pair { first, second: Bus },
-        Err(_) => unreachable(),
+    match machine(0) {
+        Some(rule) => rule,
+        None => unreachable(),
     }
 }
 
@@ -37,11 +32,11 @@ pub fn windows_of(heap: Global, file: &[u8]) -> Result<Outcome, AllocError>
 {
     let mut plan = match read(file) {
         Ok(plan) => plan,
-        Err(fault) => return Ok(Outcome::Unread(fault)),
+        Err(fault) => return Ok(Err(SentBack::File(fault))),
     };
     match visit(heap, &mut plan, &Visit::Settle(line_rule(), BUDGET, ROWS))? {
-        Answer::Settled(sweeps, rows) => Ok(Outcome::Windows(sweeps, rows)),
-        Answer::Unsettled(fault) => Ok(Outcome::Unsettled(fault)),
+        Answer::Settled(Ok(table)) => Ok(Ok(table)),
+        Answer::Settled(Err(fault)) => Ok(Err(SentBack::Settle(fault))),
         _ => unreachable(),
     }
 }

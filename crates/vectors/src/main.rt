@@ -6,22 +6,21 @@ use buffers::BufferFault;
 use std::alloc::Global;
 use std::{env, fs};
 use texts::buffer::{write_refusal, write_windows};
-use texts::{SentBack, Windows};
+use texts::Windows;
 use timing::line::windows_of;
 use timing::outcome::Outcome;
 
 /// Writes the text of an outcome into the front of a buffer, and answers how many bytes it has.
 fn write_outcome(outcome: &Outcome, buffer: &mut [u8]) -> Result<usize, BufferFault> {
     match outcome {
-        Outcome::Windows(sweeps, rows) => write_windows(
+        Ok(table) => write_windows(
             Windows {
-                sweeps: *sweeps,
-                rows: rows.as_slice(),
+                sweeps: table.sweeps,
+                rows: table.rows.as_slice(),
             },
             buffer,
         ),
-        Outcome::Unread(fault) => write_refusal(SentBack::File(*fault), buffer),
-        Outcome::Unsettled(fault) => write_refusal(SentBack::Settle(*fault), buffer),
+        Err(sent) => write_refusal(*sent, buffer),
     }
 }
 

@@ -1,12 +1,11 @@
 -- A plan that tracks the ledger gives the ledger's answer to the next visit, and tracks the ledger after it.
-use Rattle.std.proofs.Common.{◌≡◌, ℕ, zero, suc, ◌+◌, ◌<◌, ◌⊎◌, List, [], ◌∷◌, ◌++◌, map, length, get_or, take, Some, None, Option, sym, refl, ap, ◌∙◌, subst, inl, inr, arith, length-append}
+use Rattle.std.proofs.Common.{◌≡◌, ℕ, zero, suc, ◌+◌, ◌<◌, ◌⊎◌, List, [], ◌∷◌, ◌++◌, map, length, get_or, take, Ok, Option, sym, refl, ap, ◌∙◌, subst, inl, inr, arith, length-append}
 use Rattle.std.proofs.lemmas.List.{map_more, get_or_append_left, get_or_push}
 use Rattle.std.proofs.lemmas.Bool.{cases_eq}
 use Rattle.service.specs.declared.Record.{Record}
 use Rattle.service.specs.Traces.{Trace}
 use Rattle.items.specs.declared.Item.{Item}
 use Rattle.items.specs.declared.Refusal.{Refusal}
-use Rattle.items.specs.Refusals.{as_result}
 use Rattle.items.specs.Ledger.{Ledger, fed, fed_all, opened, standing, refusal}
 use Rattle.items.specs.Ledger.{Visit as Told}
 use Rattle.items.specs.Journal.{State, fresh, visited, answer, WellKept, Tracks}
@@ -17,14 +16,9 @@ use Rattle.visits.specs.declared.visit.Answer.{Answer}
 use Rattle.visits.specs.declared.visit.Visit.{Visit}
 use Rattle.visits.specs.declared.visit.Visit.TheVariants.{Undo}
 use Rattle.visits.specs.Visits.{asked, ledger_after}
-use Rattle.visits.specs.Answers.{answer_to, as_answer, Right}
-use Rattle.visits.specs.declared.visit.Answer.TheVariants.{Accepted}
+use Rattle.visits.specs.Answers.{Right}
+use Rattle.visits.specs.declared.visit.Answer.TheVariants.{Edited}
 use Rattle.visits.specs.Replays.{visit_at, answer_at, RightAt, Replayed}
-
--- an edit's answer is that of its refusal
-pub answer_same : (o : Option Refusal) → as_answer (as_result o) ≡ answer_to o
-answer_same None = refl
-answer_same (Some r) = refl
 
 -- the ledger is fed the visits one by one
 fed_last : (l : Ledger) (ts : List Told) (t : Told) → fed_all l (ts ++ (t ∷ [])) ≡ fed (fed_all l ts) t
@@ -87,7 +81,7 @@ module _ {R : Type 0} (allows : R → ℕ → List Record → Trace → Type 0) 
 
       here : RightAt allows numbers bits [] vs news k
       here =
-          let last : answer_at news k ≡ a = ap (λ xs. answer_at xs k) grown ∙ get_or_push olds a Accepted k u.count in
+          let last : answer_at news k ≡ a = ap (λ xs. answer_at xs k) grown ∙ get_or_push olds a (Edited (Ok tt)) k u.count in
           let by_state : Right allows numbers (answer s (asked (visit_at vs k))) s.bits s.items (visit_at vs k) (answer_at news k) =
           subst (Right allows numbers (answer s (asked (visit_at vs k))) s.bits s.items (visit_at vs k)) (sym last)
           (subst (λ (w : Visit R). Right allows numbers (answer s (asked w)) s.bits s.items w a) is right) in
@@ -96,7 +90,7 @@ module _ {R : Type 0} (allows : R → ℕ → List Record → Trace → Type 0) 
       at : (j : ℕ) → (j ≡ k) ⊎ (j ≡ k → ⊥) → j < k + 1 → RightAt allows numbers bits [] vs news j
       at j (inl same) low = subst (RightAt allows numbers bits [] vs news) (sym same) here
       at j (inr other) low =
-          let before : answer_at news j ≡ answer_at olds j = ap (λ xs. answer_at xs j) grown ∙ get_or_append_left olds (a ∷ []) Accepted j (omega (arith, u.count)) in
+          let before : answer_at news j ≡ answer_at olds j = ap (λ xs. answer_at xs j) grown ∙ get_or_append_left olds (a ∷ []) (Edited (Ok tt)) j (omega (arith, u.count)) in
           let m : Ledger = ledger_after bits [] vs j in
           subst (Right allows numbers (refusal m (asked (visit_at vs j))) m.bits (standing m) (visit_at vs j)) (sym before) (u.right j (omega arith))
 

@@ -1,12 +1,12 @@
 -- A whole list of visits to a plan just opened or read: every answer and the items at the end are the ledger's.
-use Rattle.std.specs.Prelude.{◌≡◌, ℕ, ◌<◌, List, length, slice_index_or}
+use Rattle.std.specs.Prelude.{◌≡◌, ℕ, ◌<◌, List, length, Ok, slice_index_or}
 use Rattle.service.specs.declared.Record.{Record}
 use Rattle.service.specs.Traces.{Trace}
 use Rattle.items.specs.declared.Item.{Item}
 use Rattle.items.specs.Ledger.{Ledger, standing, refusal}
 use Rattle.service.specs.Numbers.{Numbers}
 use Rattle.visits.specs.declared.visit.Answer.{Answer}
-use Rattle.visits.specs.declared.visit.Answer.TheVariants.{Accepted}
+use Rattle.visits.specs.declared.visit.Answer.TheVariants.{Edited}
 use Rattle.visits.specs.declared.visit.Visit.{Visit}
 use Rattle.visits.specs.declared.visit.Visit.TheVariants.{Undo}
 use Rattle.visits.specs.Visits.{asked, ledger_after}
@@ -17,7 +17,7 @@ abbrev pub visit_at : {R : Type 0} → List (Visit R) → ℕ → Visit R
 visit_at vs k = slice_index_or vs k Undo
 
 abbrev pub answer_at : List Answer → ℕ → Answer
-answer_at answers k = slice_index_or answers k Accepted
+answer_at answers k = slice_index_or answers k (Edited (Ok tt))
 
 module _ {R : Type 0} (allows : R → ℕ → List Record → Trace → Type 0) (numbers : R → Numbers) (bits : List ℕ) (first : List Item) (vs : List (Visit R)) where
   -- the answer at k is the one that the ledger gives after the first k visits

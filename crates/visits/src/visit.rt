@@ -13,17 +13,20 @@ pub enum Visit<R> {
     Items,
 }
 
+/// What a settle gives: so many sweeps were made, and these are the windows of the items.
+#[derive(Drop)]
+pub struct SettledTable {
+    pub sweeps: u32,
+    pub rows: Vec<WindowRow>,
+}
+
 /// What a visitor is answered.
 #[derive(Drop)]
 pub enum Answer {
-    /// The edit or the undo was done.
-    Accepted,
-    /// It was not, and nothing changed.
-    Refused(Refusal),
-    /// So many sweeps were made, and these are the windows of the items.
-    Settled(u32, Vec<WindowRow>),
-    /// The settle was sent back.
-    Unsettled(Fault),
+    /// The edit or the undo was done; or it was refused, and nothing changed.
+    Edited(Result<(), Refusal>),
+    /// The settle gave a table, or was sent back.
+    Settled(Result<SettledTable, Fault>),
     /// The standing items.
     Listed(Vec<Item>),
 }

@@ -8,7 +8,6 @@ use console::{fail, hear, status_of, tell};
 use std::process::ExitCode;
 use texts::{SentBack, Windows};
 use timing::line::windows_of;
-use timing::outcome::Outcome;
 
 /// Prints the refusal, and gives the status of a failure.
 fn refuse(rt: &HostRuntime, sent: SentBack) -> Result<(), ExitCode>
@@ -24,15 +23,14 @@ fn run(rt: &HostRuntime) -> Result<(), ExitCode>
 {
     let bytes = hear(rt)?;
     match windows_of(rt.alloc(), bytes.as_slice()) {
-        Ok(Outcome::Windows(sweeps, rows)) => tell(
+        Ok(Ok(table)) => tell(
             rt,
             Windows {
-                sweeps,
-                rows: rows.as_slice(),
+                sweeps: table.sweeps,
+                rows: table.rows.as_slice(),
             },
         ),
-        Ok(Outcome::Unread(fault)) => refuse(rt, SentBack::File(fault)),
-        Ok(Outcome::Unsettled(fault)) => refuse(rt, SentBack::Settle(fault)),
+        Ok(Err(sent)) => refuse(rt, sent),
         Err(_) => Err(fail(rt, "there is no memory left")),
     }
 }
