@@ -1,5 +1,5 @@
 -- The tests of records and what they say.
-use Rattle.std.proofs.Common.{◌≡◌, ℕ, zero, suc, ◌<◌, ◌≤◌, true, false, ◌&&◌, ltb, leb, ◌⊎◌, List, [], ◌∷◌, length, is_some, Some, None, Option, refl, subst, inl, inr, le_of_suc-le-suc, not-suc-le-zero, arith, MatchOption, MatchResult}
+use Rattle.std.proofs.Common.{◌≡◌, ℕ, zero, suc, ◌<◌, ◌≤◌, true, false, ◌&&◌, ltb, leb, ◌⊎◌, List, [], ◌∷◌, length, Some, None, Option, refl, inl, inr, le_of_suc-le-suc, not-suc-le-zero, arith, MatchOption, MatchResult}
 use Rattle.std.proofs.lemmas.Bool.{and_parts, and_from, leb-true, le-leb, ltb-true, lt-ltb, cases_Bool, both_ways}
 use Rattle.std.specs.Option.{ok_or}
 use Rattle.service.specs.declared.Record.{Record}
@@ -85,22 +85,6 @@ admits rs p e =
 
 pub admit : (rs : List Record) (p : ℕ) → Admits rs p → admitted rs p ≡ true
 admit rs p a = rw (a.all, lt-ltb p (length rs) a.place, le-leb (length rs) 256 a.few)
-
--- what the check of one record says
-module _ (o : Option Row) (r : Record) (cases : MatchOption o (IsRow r → ⊥) (λ w. w.told ≡ r)) where
-  pub of_some : is_some o ≡ true → IsRow r
-  of_some e = go o cases e
-    where
-      go : (o : Option Row) → MatchOption o (IsRow r → ⊥) (λ w. w.told ≡ r) → is_some o ≡ true → IsRow r
-      go None none e = absurd (both_ways false refl e)
-      go (Some w) same e = subst IsRow same w.fits
-
-  pub of_none : is_some o ≡ false → IsRow r → ⊥
-  of_none e = go o cases e
-    where
-      go : (o : Option Row) → MatchOption o (IsRow r → ⊥) (λ w. w.told ≡ r) → is_some o ≡ false → IsRow r → ⊥
-      go None none e = none
-      go (Some w) same e = absurd (both_ways true e refl)
 
 -- the row that is found at a place to which a rule is open
 pub found : (rs : List Record) (p : ℕ) (o : Option Row) (e : Response) → Admits rs p → MatchOption o (IsRow (row rs p) → ⊥) (λ w. w.told ≡ row rs p)

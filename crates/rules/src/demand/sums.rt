@@ -1,5 +1,6 @@
 //! The sums of a demand: what is asked in a stretch, what is asked at least, and how steeply it rises.
 ghost use Rattle.std.specs.Prelude.{◌≡◌, ℕ, ◌+◌, ◌^◌, ◌<◌, ◌≤◌, min, nat_lt};
+ghost use Rattle.std.specs.Fn.{FnReturnsAt};
 ghost use Rattle.service.specs.declared.Record.{Record};
 ghost use Rattle.service.specs.declared.row.Row.{Row};
 ghost use Rattle.bounds.specs.Numbers.{Under};
@@ -51,16 +52,16 @@ impl Demand {
     }
 
     /// The base, and what `of` gives for each row that is waited for.
-    fn add_up<F: Fn(Row) -> u64>(&self, rows: &Rows, of: F) -> u64
+    fn add_up<F: Fn(&Row) -> u64>(&self, rows: &Rows, of: F) -> u64
         requires callable { F.IsAlwaysCallable of }
-        requires bound { (w : Row) (v : ℕ) → F.post of w v → v ≤ 2 ^ 50 }
-        ensures { (f : Record → ℕ) → ((w : Row) (v : ℕ) → F.post of w v → v ≡ f w.told) → result ≡ self.now.base + summed f self.now.priority rows.now.records.now }
+        requires bound { (w : Row) (v : ℕ) → FnReturnsAt F.Fn of w v → v ≤ 2 ^ 50 }
+        ensures { (f : Record → ℕ) → ((w : Row) (v : ℕ) → FnReturnsAt F.Fn of w v → v ≡ f w.told) → result ≡ self.now.base + summed f self.now.priority rows.now.records.now }
     {
         let mut sum = u64::from(self.base);
         for told in rows.records {
             let row = Row { told: *told };
             if self.waits_for(&row) {
-                sum += of(row);
+                sum += of(&row);
             }
         }
         sum
@@ -91,7 +92,7 @@ impl Step for Demand {
     ghost rises = { λ d rs works m n h. omega (arith, above_grows d.priority d.more rs (rows_since rs works.all) m n h) };
 
     fn step(&self, rows: &Rows, n: Ticks) -> u64 {
-        self.add_up(rows, |row| asked(&row, n, self.more))
+        self.add_up(rows, |row| asked(row, n, self.more))
     }
 
     fn start(&self, rows: &Rows) -> u64

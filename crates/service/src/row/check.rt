@@ -1,5 +1,5 @@
 //! Rows from records: the check of one, of all, and of what a rule is told.
-ghost use Rattle.std.specs.Prelude.{◌≡◌, true, is_some, MatchOption, MatchResult};
+ghost use Rattle.std.specs.Prelude.{◌≡◌, true, MatchOption, MatchResult};
 ghost use Rattle.service.specs.Rows.{row, IsRow};
 ghost use Rattle.service.specs.Answers.{is_row, all_rows, admitted, Refused};
 
@@ -15,19 +15,30 @@ const HEAVIEST: u32 = 20_000_000;
 /// The most rows that a rule works with.
 const MOST_ROWS: usize = 256;
 
+impl Record {
+    /// Whether the record can be a row.
+    pub fn is_row(&self) -> bool
+        ensures { result ≡ is_row self.now }
+    {
+        self.period >= 1
+            && self.period <= LONGEST
+            && self.jitter <= LONGEST
+            && self.least >= 1
+            && self.least <= self.greatest
+            && self.greatest <= HEAVIEST
+    }
+}
+
 impl Row {
     /// The row of a record, if the record can be one.
     pub fn of(from: &Record) -> Option<Row>
-        ensures row { MatchOption result (IsRow from.now → ⊥) (λ w. w.told ≡ from.now) }
-        ensures test { is_some result ≡ is_row from.now }
+        ensures { MatchOption result (IsRow from.now → ⊥) (λ w. w.told ≡ from.now) }
     {
-        if from.period < 1 || from.period > LONGEST || from.jitter > LONGEST {
-            return None;
+        if from.is_row() {
+            Some(Row { told: *from })
+        } else {
+            None
         }
-        if from.least < 1 || from.least > from.greatest || from.greatest > HEAVIEST {
-            return None;
-        }
-        Some(Row { told: *from })
     }
 
     /// The row at the place meant, or what every rule answers where it has no numbers of its own to give.
@@ -48,5 +59,11 @@ impl Row {
 pub fn are_rows(records: &[Record]) -> bool
     ensures { result ≡ all_rows records.now }
 {
-    records.iter().all(|told| Row::of(told).is_some())
+    // A loop, since `all` costs a fifth more at 16 rows (docs/SPEED.md).
+    for told in records {
+        if !told.is_row() {
+            return false;
+        }
+    }
+    true
 }

@@ -13,4 +13,4 @@ returns c =
     let all : all_rows rs ≡ true = sym c.if-not-are_rows.ensures in
     let open_to : Admits rs p = record { all = all; place = omega arith; few = omega arith } in
     let P : Result Row Response → Type 0 = λ r. MatchResult r (λ w. (admitted rs p ≡ true) × (w.told ≡ row rs p)) (Refused rs p) in
-    subst P (sym c.ok_or.ensures.value) (found rs p c.of.result _ open_to c.of.ensures.row)
+    subst P (sym c.ok_or.ensures.value) (found rs p c.of.result _ open_to c.of.ensures)
