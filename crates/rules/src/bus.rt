@@ -1,12 +1,12 @@
 //! The bus rule: a frame once begun is served to its end; else the one of highest priority begins.
-ghost use Rattle.std.specs.Prelude.{◌≡◌, ◌<◌, length};
+ghost use Rattle.std.specs.Prelude.{◌≡◌};
 ghost use Rattle.bounds.specs.Equations.{bus_worst};
 ghost use Rattle.bounds.specs.Runs.{Bus as BusRun};
 ghost use Rattle.rules.specs.Answers.{bus_numbers};
 ghost use Rattle.rules.specs.Lawful.{bus_lawful};
 
 use crate::demand::Demand;
-use crate::rows::Rows;
+use crate::rows::{Meant, Rows};
 use service::row::Row;
 use service::{Record, Response, Rule};
 
@@ -16,21 +16,20 @@ const NO_BUS: u8 = 0;
 #[derive(Clone, Copy)]
 pub struct Bus;
 
-/// The worst response of the row at a place.
-fn worst_at(bit_time: u8, rows: &Rows, place: usize) -> Option<u32>
-    requires { place < length rows.now.records.now }
-    ensures { result ≡ bus_worst bit_time rows.now.records.now place }
+/// The worst response of the row meant.
+fn worst_at(bit_time: u8, meant: &Meant) -> Option<u32>
+    ensures { result ≡ bus_worst bit_time meant.now.rows.records.now meant.now.place }
 {
     if bit_time == NO_BUS {
         return None;
     }
-    let row = rows.row(place);
+    let row = meant.row();
     let wait = Demand {
         priority: row.told.priority,
-        base: rows.longest_from(row.told.priority),
+        base: meant.rows.longest_from(row.told.priority),
         more: bit_time,
     };
-    wait.response(rows, &row, row.told.greatest)
+    wait.response(&meant.rows, &row, row.told.greatest)
 }
 
 impl Rule for Bus {
@@ -45,7 +44,13 @@ impl Rule for Bus {
             Err(answer) => answer,
             Ok(row) => Response {
                 least: row.told.least,
-                worst: worst_at(bit_time, &Rows { records }, place),
+                worst: worst_at(
+                    bit_time,
+                    &Meant {
+                        rows: Rows { records },
+                        place,
+                    },
+                ),
             },
         }
     }

@@ -1,30 +1,29 @@
 //! The processor rule: the job of highest priority is served in every tick.
-ghost use Rattle.std.specs.Prelude.{◌≡◌, ◌<◌, length};
+ghost use Rattle.std.specs.Prelude.{◌≡◌};
 ghost use Rattle.bounds.specs.Equations.{processor_worst};
 ghost use Rattle.bounds.specs.Runs.{Processor as ProcessorRun};
 ghost use Rattle.rules.specs.Answers.{processor_numbers};
 ghost use Rattle.rules.specs.Lawful.{processor_lawful};
 
 use crate::demand::Demand;
-use crate::rows::Rows;
+use crate::rows::{Meant, Rows};
 use service::row::Row;
 use service::{Record, Response, Rule};
 
 #[derive(Clone, Copy)]
 pub struct Processor;
 
-/// The worst response of the row at a place.
-fn worst_at(rows: &Rows, place: usize) -> Option<u32>
-    requires { place < length rows.now.records.now }
-    ensures { result ≡ processor_worst rows.now.records.now place }
+/// The worst response of the row meant.
+fn worst_at(meant: &Meant) -> Option<u32>
+    ensures { result ≡ processor_worst meant.now.rows.records.now meant.now.place }
 {
-    let row = rows.row(place);
+    let row = meant.row();
     let demand = Demand {
         priority: row.told.priority,
         base: row.told.greatest,
         more: 0,
     };
-    demand.response(rows, &row, 0)
+    demand.response(&meant.rows, &row, 0)
 }
 
 impl Rule for Processor {
@@ -39,7 +38,10 @@ impl Rule for Processor {
             Err(answer) => answer,
             Ok(row) => Response {
                 least: row.told.least,
-                worst: worst_at(&Rows { records }, place),
+                worst: worst_at(&Meant {
+                    rows: Rows { records },
+                    place,
+                }),
             },
         }
     }

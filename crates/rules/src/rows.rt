@@ -1,4 +1,4 @@
-//! The rows of a resource, all checked: each record is a row, and they are 256 at most.
+//! The rows of a resource, all checked, and one of them that is meant.
 ghost use Rattle.std.specs.Prelude.{◌≡◌, ◌<◌, length};
 ghost use Rattle.service.specs.Rows.{row};
 ghost use Rattle.bounds.specs.Equations.{longest};
@@ -7,6 +7,7 @@ ghost use Rattle.rules.specs.Workable.{Workable};
 use service::Record;
 use service::row::Row;
 
+/// Each record is a row, and they are 256 at most.
 #[derive(Clone, Copy)]
 pub struct Rows<'a> {
     pub records: &'a [Record],
@@ -14,16 +15,6 @@ pub struct Rows<'a> {
 }
 
 impl<'a> Rows<'a> {
-    /// The row at a place.
-    pub(crate) fn row(&self, place: usize) -> Row
-        requires { place < length self.now.records.now }
-        ensures { result.told ≡ row self.now.records.now place }
-    {
-        Row {
-            told: self.records[place],
-        }
-    }
-
     /// The longest frame at or below a priority.
     pub(crate) fn longest_from(&self, priority: u32) -> u32
         ensures { result ≡ longest priority self.now.records.now }
@@ -35,5 +26,24 @@ impl<'a> Rows<'a> {
             }
         }
         most
+    }
+}
+
+/// One row, by its place among the rows of its resource.
+#[derive(Clone, Copy)]
+pub struct Meant<'a> {
+    pub rows: Rows<'a>,
+    pub place: usize,
+    ghost within: { place < length rows.records.now },
+}
+
+impl<'a> Meant<'a> {
+    /// The row itself.
+    pub(crate) fn row(&self) -> Row
+        ensures { result.told ≡ row self.now.rows.records.now self.now.place }
+    {
+        Row {
+            told: self.rows.records[self.place],
+        }
     }
 }
