@@ -19,9 +19,9 @@ use Rattle.settle.specs.declared.WindowRow.{WindowRow}
 use Rattle.settle.specs.Answers.{answer_at}
 use Rattle.consult.specs.Answers.{Answered}
 use Rattle.settle.specs.Rows.{row_at, row_for, release_of, finish_of}
-use Rattle.settle.specs.Sweeps.{front, Left}
-use Rattle.consult.specs.Windows.{spans_of}
-use Rattle.settle.proofs.Fronts.{front_at}
+use Rattle.settle.specs.Sweeps.{Left}
+use Rattle.consult.specs.Windows.{spans_of, front}
+use Rattle.consult.proofs.Fronts.{front_at}
 use Rattle.settle.specs.Settled.{Still, Ends, Budgeted, Written, Settled}
 
 module _ (allows : ℕ → List Record → Trace → Type 0) (rule : Numbers) (bits : List ℕ) (xs : List Item) where
