@@ -12,7 +12,7 @@ use Rattle.consult.specs.declared.window.Window.{Window}
 use Rattle.consult.specs.Windows.{span_of, spans_of}
 use Rattle.consult.specs.Chains.{link, Linked}
 use Rattle.consult.proofs.Links.{head_link, follower_link, before}
-use Rattle.settle.specs.Answers.{answer_at}
+use Rattle.consult.specs.Answers.{answer}
 use Rattle.settle.specs.Passes.{Narrow, Agree, head_window, lead_after, window_from, window_by}
 
 module _ (ws : List Window) (i : ℕ) (w : Window) where
@@ -27,7 +27,7 @@ module _ (bits : List ℕ) (xs : List Item) (valid : Valid bits xs) (answers : L
     pub by_head : (item_at xs k).predecessor ≡ 0 → window_by f xs ws answers k ≡ head_window (item_at xs k).delay
     by_head z = ap (window_from f (item_at xs k) ws answers) (head_link bits xs valid k z)
 
-    pub by_link : (l : Link xs k) → window_by f xs ws answers k ≡ f (span ws l.at) (answer_at answers l.at)
+    pub by_link : (l : Link xs k) → window_by f xs ws answers k ≡ f (span ws l.at) (answer answers l.at)
     by_link l = ap (window_from f (item_at xs k) ws answers) (follower_link bits xs valid k l)
 
   -- only earlier windows count
@@ -35,11 +35,11 @@ module _ (bits : List ℕ) (xs : List Item) (valid : Valid bits xs) (answers : L
   by_earlier f ws vs h agree =
       ⊎_elim
       (λ z. by_head f ws z ∙ sym (by_head f vs z))
-      (λ l. by_link f ws l ∙ ap (λ (w : Span). f w (answer_at answers l.at)) (agree l.at l.earlier) ∙ sym (by_link f vs l))
+      (λ l. by_link f ws l ∙ ap (λ (w : Span). f w (answer answers l.at)) (agree l.at l.earlier) ∙ sym (by_link f vs l))
       (head_or_link bits xs valid k h)
 
   -- a window of the first table opens low if the earlier ones do
-  pub lead_low : (ws : List Span) → k < length xs → ((j : ℕ) → j < length xs → (answer_at answers j).least ≤ 20000000) → ((j : ℕ) → j < k → (span ws j).from ≤ 20000000 * j) → (window_by lead_after xs ws answers k).from ≤ 20000000 * k
+  pub lead_low : (ws : List Span) → k < length xs → ((j : ℕ) → j < length xs → (answer answers j).least ≤ 20000000) → ((j : ℕ) → j < k → (span ws j).from ≤ 20000000 * j) → (window_by lead_after xs ws answers k).from ≤ 20000000 * k
   lead_low ws h leasts low =
       ⊎_elim
       (λ z. rw (by_head lead_after ws z) (omega arith))
@@ -51,7 +51,7 @@ module _ (bits : List ℕ) (xs : List Item) (valid : Valid bits xs) (answers : L
       (head_or_link bits xs valid k h)
 
   -- so each of its windows is in range
-  pub lead_narrow : (ws : List Span) → k < length xs → ((j : ℕ) → j < length xs → (answer_at answers j).least ≤ 20000000) → ((j : ℕ) → j < k → (span ws j).from ≤ 20000000 * j) → Narrow (window_by lead_after xs ws answers k)
+  pub lead_narrow : (ws : List Span) → k < length xs → ((j : ℕ) → j < length xs → (answer answers j).least ≤ 20000000) → ((j : ℕ) → j < k → (span ws j).from ≤ 20000000 * j) → Narrow (window_by lead_after xs ws answers k)
   lead_narrow ws h leasts low =
       let few = valid.size in
       ⊎_elim
@@ -69,6 +69,6 @@ link_low bits xs valid ls linked k h j is = let b = before bits xs valid k j h (
 
 -- what a window in range asks of that of its predecessor
 pub narrow_from : (f : Span → Response → Span) (xs : List Item) (ws : List Span) (answers : List Response) (ls : List (Option ℕ)) → Linked xs ls → (k : ℕ) → k < length xs → Narrow (window_by f xs ws answers k)
-    → (j : ℕ) (w : Window) → link ls k ≡ Some j → span_of w ≡ span ws j → Narrow (f (span_of w) (answer_at answers j))
+    → (j : ℕ) (w : Window) → link ls k ≡ Some j → span_of w ≡ span ws j → Narrow (f (span_of w) (answer answers j))
 narrow_from f xs ws answers ls linked k h narrow j w is read =
-    subst Narrow (ap (window_from f (item_at xs k) ws answers) (sym (linked k h) ∙ is) ∙ ap (λ (v : Span). f v (answer_at answers j)) (sym read)) narrow
+    subst Narrow (ap (window_from f (item_at xs k) ws answers) (sym (linked k h) ∙ is) ∙ ap (λ (v : Span). f v (answer answers j)) (sym read)) narrow

@@ -15,23 +15,22 @@ use Rattle.tables.proofs.Ranges.{blank_range}
 use Rattle.tables.proofs.Swept.{lead_none, lead_next}
 use Rattle.tables.proofs.Swept as tables
 use Rattle.consult.specs.declared.window.Window.{Window}
-use Rattle.consult.specs.Answers.{Answered}
+use Rattle.consult.specs.Answers.{Answered, answer}
 use Rattle.consult.specs.Windows.{spans_of, front}
 use Rattle.consult.proofs.Fronts.{front_is, front_empty}
-use Rattle.settle.specs.Answers.{answer_at}
 use Rattle.settle.specs.Passes.{lead_after, Led}
 use Rattle.settle.proofs.Followers.{by_head, by_link}
 
 module _ (rule : Numbers) (bits : List ℕ) (xs : List Item) (valid : Valid bits xs) (answers : List Response) (told : Answered rule bits xs (blank rule bits xs) answers) where
   -- the leasts of the empty windows are in range
-  pub least_high : (allows : ℕ → List Record → Trace → Type 0) → LawfulRule allows rule → (k : ℕ) → k < length xs → (answer_at answers k).least ≤ 20000000
+  pub least_high : (allows : ℕ → List Record → Trace → Type 0) → LawfulRule allows rule → (k : ℕ) → k < length xs → (answer answers k).least ≤ 20000000
   least_high allows laws k h = let e = told.least k h in let high = (blank_range allows rule laws bits xs valid k h).0.1 in omega arith
 
   module _ (ws : List Span) (led : Led xs answers ws (length xs)) where
     led_head : (k : ℕ) → k < length xs → (item_at xs k).predecessor ≡ 0 → span ws k ≡ record { from = 0; to = (item_at xs k).delay }
     led_head k h z = led k h ∙ by_head bits xs valid answers k lead_after ws z
 
-    led_link : (k : ℕ) → k < length xs → (l : Link xs k) → span ws k ≡ lead_after (span ws l.at) (answer_at answers l.at)
+    led_link : (k : ℕ) → k < length xs → (l : Link xs k) → span ws k ≡ lead_after (span ws l.at) (answer answers l.at)
     led_link k h l = led k h ∙ by_link bits xs valid answers k lead_after ws l
 
     led_opens : (n k : ℕ) → k < n → k < length xs → (span ws k).from ≡ lead rule bits xs k
@@ -52,7 +51,7 @@ module _ (rule : Numbers) (bits : List ℕ) (xs : List Item) (valid : Valid bits
         ⊎_elim
         (λ z. led_head k h z ∙ sym (tables.by_head rule bits xs (first_window rule bits xs) k h z))
         (λ l.
-        let opens : (span ws l.at).from + (answer_at answers l.at).least ≡ lead rule bits xs k = ap (λ (w : Span). w.from) (sym (led_link k h l)) ∙ led_opens (length xs) k h h in
+        let opens : (span ws l.at).from + (answer answers l.at).least ≡ lead rule bits xs k = ap (λ (w : Span). w.from) (sym (led_link k h l)) ∙ led_opens (length xs) k h h in
         led_link k h l ∙ ap (λ (n : ℕ). record { from = n; to = n }) opens ∙ sym (tables.by_link rule bits xs valid (first_window rule bits xs) k h l))
         (head_or_link bits xs valid k h)
 

@@ -9,10 +9,10 @@ use Rattle.tables.specs.Tables.{worst_or_0, AllBounded, next_window, swept}
 use Rattle.tables.proofs.Chains.{head_or_link}
 use Rattle.tables.proofs.Swept as tables
 use Rattle.consult.specs.declared.window.Window.{Window}
-use Rattle.consult.specs.Answers.{Answered}
+use Rattle.consult.specs.Answers.{Answered, answer}
 use Rattle.consult.specs.Windows.{spans_of, front}
 use Rattle.consult.proofs.Fronts.{front_at, front_is}
-use Rattle.settle.specs.Answers.{answer_at, AllAnswered, LowestNone}
+use Rattle.settle.specs.Answers.{AllAnswered, LowestNone}
 use Rattle.settle.specs.Passes.{Narrow, after, window_by, Renewed}
 use Rattle.settle.specs.Settled.{Lowest}
 use Rattle.settle.proofs.Followers.{by_head, by_link, by_earlier}
@@ -35,7 +35,7 @@ module _ (rule : Numbers) (bits : List ℕ) (xs : List Item) (valid : Valid bits
         (λ z. tables.by_head rule bits xs (next_window rule bits xs ws) k h z ∙ sym (by_head bits xs valid answers k after ws z))
         (λ l.
         let j = l.at in
-        let new : next_window rule bits xs ws k j ≡ after (span ws j) (answer_at answers j) = λ i. record {
+        let new : next_window rule bits xs ws k j ≡ after (span ws j) (answer answers j) = λ i. record {
           from = (span ws j).from + sym (told.least j l.below) i;
           to = (span ws j).to + worst_or_0 (sym (told.worst j l.below) i);
         } in

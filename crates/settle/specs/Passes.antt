@@ -3,16 +3,11 @@ use Rattle.std.specs.Prelude.{◌≡◌, ℕ, ◌+◌, ◌-◌, ◌<◌, ◌≤�
 use Rattle.service.specs.declared.Response.{Response}
 use Rattle.items.specs.declared.Item.{Item}
 use Rattle.items.specs.Items.{item_at}
-use Rattle.items.specs.Valid.{Valid}
 use Rattle.tables.specs.Demands.{Span, span}
 use Rattle.tables.specs.Tables.{worst_or_0}
 use Rattle.consult.specs.Chains.{link_of}
 use Rattle.consult.specs.Windows.{jitter_of}
-use Rattle.settle.specs.Answers.{answer_at}
-
--- the items are valid, whatever the bit times
-abbrev pub SomeValid : List Item → Type 0
-SomeValid xs = (bits : List ℕ) × Valid bits xs
+use Rattle.consult.specs.Answers.{answer}
 
 -- the numbers that a window can have
 pub record Narrow (w : Span) : Type 0 where
@@ -39,7 +34,7 @@ lead_after w a = record { from = w.from + a.least; to = w.from + a.least }
 -- the window of an item that may have a predecessor at a place, by that one's window and the answer for it
 abbrev pub window_from : (Span → Response → Span) → Item → List Span → List Response → Option ℕ → Span
 window_from f x ws answers None = head_window x.delay
-window_from f x ws answers (Some j) = f (span ws j) (answer_at answers j)
+window_from f x ws answers (Some j) = f (span ws j) (answer answers j)
 
 -- the window of the item at k
 abbrev pub window_by : (Span → Response → Span) → List Item → List Span → List Response → ℕ → Span

@@ -6,18 +6,17 @@ use Rattle.items.specs.declared.Item.{Item}
 use Rattle.items.specs.Items.{item_at}
 use Rattle.tables.specs.Demands.{Span}
 use Rattle.tables.specs.Tables.{least_at, worst_at, table}
-use Rattle.consult.specs.Answers.{Answered}
+use Rattle.consult.specs.Answers.{Answered, answer}
 use Rattle.settle.specs.declared.Fault.{Fault}
 use Rattle.settle.specs.declared.Fault.TheVariants.{Budget, TableShort, Unbounded, Unsettled}
-use Rattle.settle.specs.Answers.{answer_at}
 use Rattle.settle.specs.Passes.{mark_of}
 use Rattle.settle.specs.Settled.{Moving, Still, Failing}
 
 module _ (rule : Numbers) (bits : List ℕ) (xs : List Item) where
   -- the answers for the items of the resources not marked are those of a table
   pub record Fresh (ws : List Span) (marks : List Bool) (answers : List Response) : Type 0 where
-    pub least : (k : ℕ) → k < length xs → mark_of marks (item_at xs k) ≡ false → (answer_at answers k).least ≡ least_at rule bits xs ws k
-    pub worst : (k : ℕ) → k < length xs → mark_of marks (item_at xs k) ≡ false → (answer_at answers k).worst ≡ worst_at rule bits xs ws k
+    pub least : (k : ℕ) → k < length xs → mark_of marks (item_at xs k) ≡ false → (answer answers k).least ≡ least_at rule bits xs ws k
+    pub worst : (k : ℕ) → k < length xs → mark_of marks (item_at xs k) ≡ false → (answer answers k).worst ≡ worst_at rule bits xs ws k
 
   -- n sweeps were made, each of which altered a window, and the table is the one that they leave
   pub record Made (n : ℕ) (ws : List Span) : Type 0 where

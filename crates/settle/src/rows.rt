@@ -3,7 +3,7 @@ ghost use Rattle.std.specs.Prelude.{◌≡◌, ℕ, ◌<◌, ◌≤◌, length};
 ghost use Rattle.items.specs.Items.{item_at};
 ghost use Rattle.tables.specs.Demands.{span};
 ghost use Rattle.consult.specs.Windows.{span_of, spans_of};
-ghost use Rattle.settle.specs.Answers.{answer_at};
+ghost use Rattle.consult.specs.Answers.{answer};
 ghost use Rattle.settle.specs.Rows.{row_at, row_for};
 
 use crate::WindowRow;
@@ -28,7 +28,7 @@ impl<'a, R: Rule> Sweeps<'a, R> {
     /// Writes a row for each item into the front of the table.
     pub(crate) fn write(&self, table: &mut [WindowRow])
         requires { length self.now.network.now.items.now ≤ length table.old }
-        ensures rows { (k : ℕ) → k < length self.now.network.now.items.now → row_at table.new k ≡ row_for (item_at self.now.network.now.items.now k).number (span (spans_of self.now.windows) k) (answer_at self.now.answers k) }
+        ensures rows { (k : ℕ) → k < length self.now.network.now.items.now → row_at table.new k ≡ row_for (item_at self.now.network.now.items.now k).number (span (spans_of self.now.windows) k) (answer self.now.answers k) }
         ensures rest { (k : ℕ) → length self.now.network.now.items.now ≤ k → row_at table.new k ≡ row_at table.old k }
     {
         for (at, item) in self.network.items.iter().enumerate() {

@@ -39,7 +39,7 @@ impl<'a, R: Rule> Sweeps<'a, R> {
         let mut answers = [NONE; 256];
         network.consult(&empty, &mut answers);
         let windows = lead(network, &answers);
-        let stale = stale_resources(network.items, &empty, &windows);
+        let stale = stale_resources(network, &empty, &windows);
         Sweeps {
             network,
             windows,
@@ -71,7 +71,7 @@ impl<'a, R: Rule> Sweeps<'a, R> {
         if !altered(&self.windows, &next, count) {
             return Ok(false);
         }
-        self.stale = stale_resources(self.network.items, &self.windows, &next);
+        self.stale = stale_resources(self.network, &self.windows, &next);
         self.windows = next;
         Ok(true)
     }

@@ -1,16 +1,15 @@
 //! Single passes over the windows of a network's items.
 ghost use Rattle.std.specs.Prelude.{◌≡◌, ℕ, ◌<◌, ◌≤◌, Some, length, MatchOption};
 ghost use Rattle.items.specs.Items.{item_at};
-ghost use Rattle.items.specs.Valid.{Valid};
 ghost use Rattle.tables.specs.Demands.{Span, span};
 ghost use Rattle.consult.specs.Chains.{link};
 ghost use Rattle.consult.specs.Windows.{front, span_of, spans_of};
-ghost use Rattle.settle.specs.Answers.{AllAnswered, LowestNone, answer_at};
-ghost use Rattle.settle.specs.Passes.{Narrow, head_window, after, lead_after, window_by, Renewed, Led, Differs, SomeValid, Marked};
+ghost use Rattle.settle.specs.Answers.{AllAnswered, LowestNone};
+ghost use Rattle.consult.specs.Answers.{answer};
+ghost use Rattle.settle.specs.Passes.{Narrow, head_window, after, lead_after, window_by, Renewed, Led, Differs, Marked};
 
 use consult::network::Network;
 use consult::window::Window;
-use items::Item;
 use service::{Response, Rule};
 
 /// The lowest of the first `count` places that has no worst response.
@@ -64,7 +63,7 @@ fn window_at<R: Rule, F: Fn(Window, Response) -> Window>(
     after: F,
 ) -> Window
     requires within { at < length network.now.items.now }
-    requires ready { (j : ℕ) (w : Window) → link network.now.links at ≡ Some j → span_of w ≡ span (spans_of windows.now) j → F.pre after w (answer_at answers.now j) }
+    requires ready { (j : ℕ) (w : Window) → link network.now.links at ≡ Some j → span_of w ≡ span (spans_of windows.now) j → F.pre after w (answer answers.now j) }
     ensures { (f : Span → Response → Span) → ((w : Window) (a : Response) (v : Window) → F.post after w a v → span_of v ≡ f (span_of w) a) → span_of result ≡ window_by f network.now.items.now (spans_of windows.now) answers.now at }
 {
     match network.links[at] {
@@ -91,7 +90,7 @@ pub(crate) fn renewed<R: Rule>(
 
 /// The windows of the first table, each from an earlier one.
 pub(crate) fn lead<R: Rule>(network: &Network<R>, answers: &[Response; 256]) -> [Window; 256]
-    requires { (k : ℕ) → k < length network.now.items.now → (answer_at answers.now k).least ≤ 20000000 }
+    requires { (k : ℕ) → k < length network.now.items.now → (answer answers.now k).least ≤ 20000000 }
     ensures { Led network.now.items.now answers.now (spans_of result) (length network.now.items.now) }
 {
     let mut windows = [Window::EMPTY; 256];
@@ -111,16 +110,15 @@ pub(crate) fn altered(windows: &[Window; 256], next: &[Window; 256], count: usiz
 }
 
 /// The resources of the items whose windows differ in length, marked, the first resource first.
-pub(crate) fn stale_resources(
-    items: &[Item],
+pub(crate) fn stale_resources<R: Rule>(
+    network: &Network<R>,
     windows: &[Window; 256],
     next: &[Window; 256],
 ) -> [bool; 16]
-    requires { SomeValid items.now }
-    ensures { Marked items.now (spans_of windows.now) (spans_of next.now) result (length items.now) }
+    ensures { Marked network.now.items.now (spans_of windows.now) (spans_of next.now) result (length network.now.items.now) }
 {
     let mut stale = [false; 16];
-    for (at, item) in items.iter().enumerate() {
+    for (at, item) in network.items.iter().enumerate() {
         if windows[at].jitter() != next[at].jitter() {
             stale[usize::from(item.resource) - 1] = true;
         }
