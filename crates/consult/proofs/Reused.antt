@@ -1,4 +1,4 @@
--- Answers that stay: a resource whose jitters have not changed has the same rows, so its answers hold for the new table as well.
+-- Rows that stay: a resource whose jitters have not changed has the same rows, so its answers hold for the new table as well.
 use Rattle.std.proofs.Common.{◌≡◌, ℕ, suc, ◌-◌, ◌<◌, Bool, true, false, cond, eqb, List, [], ◌∷◌, length, get_or, refl, ap, ◌∙◌, ⊎_elim, arith}
 use Rattle.std.proofs.lemmas.Bool.{eqb-true, cases_Bool}
 use Rattle.service.specs.declared.Record.{Record}
@@ -25,19 +25,3 @@ same_rows bits all r (x ∷ xs) (w ∷ ws) (v ∷ vs) sw sv same = go (eqb x.res
         let jitter : w.to - w.from ≡ v.to - v.from = same 0 (omega arith) (eqb-true x.resource r e) in
         rw (jitter, rest)
     go false e rest = rest
-
-module _ (rule : Numbers) (bits : List ℕ) (xs : List Item) (ws vs : List Span) (sw : length ws ≡ length xs) (sv : length vs ≡ length xs) where
-  -- answers from the old table, renewed wherever a jitter has changed, are answers from the new
-  pub reused : (marks : List Bool) (old new : List Response) → ((r : ℕ) → get_or marks (r - 1) false ≡ false → AsLong r xs ws vs)
-      → Answered rule bits xs ws old → Renewed rule bits xs vs marks old new → Answered rule bits xs vs new
-  reused marks old new same before now = record {
-    least = λ k h. ⊎_elim (λ marked. now.least k h marked)
-        (λ unmarked. ap (λ (a : Response). a.least) (now.others k h unmarked) ∙ (before.least k h ∙ ap (λ (rs : List Record). rule.least (bit_time_of bits (item_at xs k).resource) rs (place_on xs k)) (rows_same k unmarked)))
-        (cases_Bool (get_or marks ((item_at xs k).resource - 1) false));
-    worst = λ k h. ⊎_elim (λ marked. now.worst k h marked)
-        (λ unmarked. ap (λ (a : Response). a.worst) (now.others k h unmarked) ∙ (before.worst k h ∙ ap (λ (rs : List Record). rule.worst (bit_time_of bits (item_at xs k).resource) rs (place_on xs k)) (rows_same k unmarked)))
-        (cases_Bool (get_or marks ((item_at xs k).resource - 1) false));
-  }
-    where
-      rows_same : (k : ℕ) → get_or marks ((item_at xs k).resource - 1) false ≡ false → rows_on bits xs (item_at xs k).resource xs ws ≡ rows_on bits xs (item_at xs k).resource xs vs
-      rows_same k unmarked = same_rows bits xs (item_at xs k).resource xs ws vs sw sv (same (item_at xs k).resource unmarked)

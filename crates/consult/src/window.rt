@@ -1,7 +1,9 @@
 //! A release window, counted from the arrival.
 ghost use Rattle.std.specs.Prelude.{◌+◌, ◌≤◌};
 
-#[derive(Clone, Copy)]
+mod length;
+
+#[derive(Clone, Copy, PartialEq)]
 pub struct Window {
     pub open: u64,
     pub close: u64,

@@ -16,17 +16,16 @@ use Rattle.settle.specs.declared.Fault.{Fault}
 use Rattle.settle.specs.declared.Fault.TheVariants.{Budget, TableShort, Unbounded, Unsettled}
 use Rattle.consult.specs.declared.window.Window.{Window}
 use Rattle.settle.specs.declared.WindowRow.{WindowRow}
-use Rattle.settle.specs.Answers.{answer_at}
-use Rattle.consult.specs.Answers.{Answered}
+use Rattle.consult.specs.Answers.{answer, Answered}
 use Rattle.settle.specs.Rows.{row_at, row_for, release_of, finish_of}
-use Rattle.settle.specs.Sweeps.{front, Left}
-use Rattle.consult.specs.Windows.{spans_of}
-use Rattle.settle.proofs.Fronts.{front_at}
+use Rattle.settle.specs.Sweeps.{Left}
+use Rattle.consult.specs.Windows.{spans_of, front}
+use Rattle.consult.proofs.Fronts.{front_at}
 use Rattle.settle.specs.Settled.{Still, Ends, Budgeted, Written, Settled}
 
 module _ (allows : ℕ → List Record → Trace → Type 0) (rule : Numbers) (bits : List ℕ) (xs : List Item) where
   module _ (n : ℕ) (ws : List Span) (answers : List Response) (is : ws ≡ table rule bits xs n) (told : Answered rule bits xs ws answers) (old new : List WindowRow)
-      (rows : (k : ℕ) → k < length xs → row_at new k ≡ row_for (item_at xs k).number (span ws k) (answer_at answers k)) where
+      (rows : (k : ℕ) → k < length xs → row_at new k ≡ row_for (item_at xs k).number (span ws k) (answer answers k)) where
     finish_windows : FinishWindows rule bits xs ws (λ k. finish_of (row_at new k))
     finish_windows = record {
       opens = λ k h. ap (λ (r : WindowRow). r.finish_open) (rows k h) ∙ ap (λ (l : ℕ). (span ws k).from + l) (told.least k h);
@@ -45,14 +44,14 @@ module _ (allows : ℕ → List Record → Trace → Type 0) (rule : Numbers) (b
   -- the count of the sweeps is the answer
   pub settled_count : (budget n : ℕ) (windows : List Window) (answers : List Response) (old new : List WindowRow) → LawfulRule allows rule → Valid bits xs → Budgeted budget → length xs ≤ length old
       → Ends rule bits xs budget (Ok n) → Left rule bits xs (front (length xs) windows) answers (Ok n) → length new ≡ length old
-      → ((k : ℕ) → k < length xs → row_at new k ≡ row_for (item_at xs k).number (span (spans_of windows) k) (answer_at answers k)) → ((k : ℕ) → length xs ≤ k → row_at new k ≡ row_at old k)
+      → ((k : ℕ) → k < length xs → row_at new k ≡ row_for (item_at xs k).number (span (spans_of windows) k) (answer answers k)) → ((k : ℕ) → length xs ≤ k → row_at new k ≡ row_at old k)
       → Settled allows rule bits xs budget old new (Ok n)
   settled_count budget n windows answers old new laws valid in-budget room ends left size rows rest = (
     in-budget,
     room,
     ends,
     written (n - 1) (front (length xs) windows) answers left.0 left.1 old new
-        (λ k h. rows k h ∙ ap (λ (w : Span). row_for (item_at xs k).number w (answer_at answers k)) (sym (front_at windows (length xs) k h)))
+        (λ k h. rows k h ∙ ap (λ (w : Span). row_for (item_at xs k).number w (answer answers k)) (sym (front_at windows (length xs) k h)))
         laws valid ends.2 size rest,
   )
 

@@ -1,24 +1,20 @@
 -- The answers that still hold for another table.
-use Rattle.std.proofs.Common.{◌≡◌, ℕ, ◌+◌, ◌-◌, ◌<◌, ◌≤◌, Bool, true, false, List, length, get_or, set, sym, refl, ap, ◌∙◌, subst, ⊎_elim, arith, get_or-set_other, get_or-set_same, below_more}
+use Rattle.std.proofs.Common.{◌≡◌, ℕ, ◌+◌, ◌-◌, ◌<◌, ◌≤◌, Bool, true, false, List, length, get_or, set, sym, refl, ap, ◌∙◌, subst, ⊎_elim, get_or-set_other, get_or-set_same, below_more}
 use Rattle.std.proofs.lemmas.Bool.{cases_Bool, cases_eq, false≢true}
 use Rattle.service.specs.declared.Record.{Record}
 use Rattle.service.specs.declared.Response.{Response}
+use Rattle.service.specs.Numbers.{Numbers}
 use Rattle.items.specs.declared.Item.{Item}
 use Rattle.items.specs.Items.{item_at}
 use Rattle.items.specs.Conditions.{bit_time_of}
-use Rattle.items.specs.Valid.{Valid}
 use Rattle.tables.specs.Demands.{Span, span, rows_on, place_on}
-use Rattle.service.specs.Numbers.{Numbers}
 use Rattle.consult.specs.declared.window.Window.{Window}
 use Rattle.consult.specs.Answers.{Renewed, Answered}
-use Rattle.consult.specs.Windows.{spans_of}
+use Rattle.consult.specs.Windows.{spans_of, front, jitter_of}
+use Rattle.consult.proofs.Fronts.{front_at, front_length}
 use Rattle.consult.proofs.Reused.{AsLong, same_rows}
-use Rattle.settle.specs.Passes.{jitter_of, mark_of, FewResources, Marked}
-use Rattle.settle.specs.Sweeps.{front, Fresh}
-use Rattle.settle.proofs.Fronts.{front_at, front_length}
-
-pub few_resources : (bits : List ℕ) (xs : List Item) → Valid bits xs → FewResources xs
-few_resources bits xs valid k h = let v = valid.each k h in let few = valid.resources_high in (v.resource_low, omega (arith, v.resource_high))
+use Rattle.settle.specs.Passes.{mark_of, Marked}
+use Rattle.settle.specs.Sweeps.{Fresh}
 
 -- a mark more
 set_off : (marks : List Bool) (i j : ℕ) → i < length marks → get_or (set marks i true) j false ≡ false → (j ≡ i → ⊥) × (get_or marks j false ≡ false)

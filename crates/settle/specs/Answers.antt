@@ -3,16 +3,12 @@ use Rattle.std.specs.Prelude.{◌≡◌, ℕ, ◌<◌, List, Some, None}
 use Rattle.service.specs.declared.Response.{Response}
 use Rattle.consult.specs.Answers.{answer}
 
--- the answer at a place
-abbrev pub answer_at : List Response → ℕ → Response
-answer_at answers k = answer answers k
-
 -- the answers at the first places have a worst
 abbrev pub AllAnswered : List Response → ℕ → Type 0
-AllAnswered answers count = (k : ℕ) → k < count → (w : ℕ) × ((answer_at answers k).worst ≡ Some w)
+AllAnswered answers count = (k : ℕ) → k < count → (w : ℕ) × ((answer answers k).worst ≡ Some w)
 
 -- the lowest place that has none
 pub record LowestNone (answers : List Response) (count at : ℕ) : Type 0 where
   pub within : at < count
-  pub none : (answer_at answers at).worst ≡ None
+  pub none : (answer answers at).worst ≡ None
   pub before : AllAnswered answers at

@@ -1,17 +1,13 @@
 -- What one pass over the windows of a plan's items makes of them, place by place.
-use Rattle.std.specs.Prelude.{◌≡◌, ℕ, ◌+◌, ◌-◌, ◌<◌, ◌≤◌, Bool, true, false, cond, List, length, ◌==◌, ◌≢◌, slice_index, slice_index_or}
+use Rattle.std.specs.Prelude.{◌≡◌, ℕ, ◌+◌, ◌-◌, ◌<◌, ◌≤◌, Bool, true, false, List, length, Some, None, Option, ◌≢◌, slice_index_or}
 use Rattle.service.specs.declared.Response.{Response}
 use Rattle.items.specs.declared.Item.{Item}
 use Rattle.items.specs.Items.{item_at}
-use Rattle.tables.specs.Demands.{Span, span, place_of}
+use Rattle.tables.specs.Demands.{Span, span}
 use Rattle.tables.specs.Tables.{worst_or_0}
-use Rattle.settle.specs.Answers.{answer_at}
-
--- where the predecessor of each item stands: at an earlier place
-pub record Chained (xs : List Item) (links : List ℕ) : Type 0 where
-  pub few : length xs ≤ 256
-  pub place : (k : ℕ) → k < length xs → ((item_at xs k).predecessor ≢ 0) → slice_index links k ≡ place_of (item_at xs k).predecessor xs
-  pub earlier : (k : ℕ) → k < length xs → ((item_at xs k).predecessor ≢ 0) → place_of (item_at xs k).predecessor xs < k
+use Rattle.consult.specs.Chains.{link_of}
+use Rattle.consult.specs.Windows.{jitter_of}
+use Rattle.consult.specs.Answers.{answer}
 
 -- the numbers that a window can have
 pub record Narrow (w : Span) : Type 0 where
@@ -35,11 +31,14 @@ after w a = record { from = w.from + a.least; to = w.to + worst_or_0 a.worst }
 abbrev pub lead_after : Span → Response → Span
 lead_after w a = record { from = w.from + a.least; to = w.from + a.least }
 
--- the window of the item at k by that of its predecessor and the answer for it
+-- the window of an item that may have a predecessor at a place, by that one's window and the answer for it
+abbrev pub window_from : (Span → Response → Span) → Item → List Span → List Response → Option ℕ → Span
+window_from f x ws answers None = head_window x.delay
+window_from f x ws answers (Some j) = f (span ws j) (answer answers j)
+
+-- the window of the item at k
 abbrev pub window_by : (Span → Response → Span) → List Item → List Span → List Response → ℕ → Span
-window_by f xs ws answers k =
-    cond ((item_at xs k).predecessor == 0) (head_window (item_at xs k).delay)
-    (f (span ws (place_of (item_at xs k).predecessor xs)) (answer_at answers (place_of (item_at xs k).predecessor xs)))
+window_by f xs ws answers k = window_from f (item_at xs k) ws answers (link_of xs (item_at xs k))
 
 -- the windows after a sweep, from one table
 abbrev pub Renewed : List Item → List Span → List Response → List Span → Type 0
@@ -49,26 +48,14 @@ Renewed xs ws answers vs = (k : ℕ) → k < length xs → span vs k ≡ window_
 abbrev pub Led : List Item → List Response → List Span → ℕ → Type 0
 Led xs answers vs n = (k : ℕ) → k < n → span vs k ≡ window_by lead_after xs vs answers k
 
--- whether two windows differ, and whether one among the first n does
-abbrev pub Differs : Span → Span → Bool → Type 0
-Differs w v true = w ≡ v → ⊥
-Differs w v false = w ≡ v
-
-abbrev pub Alters : List Span → List Span → ℕ → Bool → Type 0
-Alters ws vs n true = (k : ℕ) × ((k < n) × (span ws k ≢ span vs k))
-Alters ws vs n false = Agree ws vs n
-
--- how long a window is
-abbrev pub jitter_of : Span → ℕ
-jitter_of w = w.to - w.from
+-- whether two tables differ
+abbrev pub Differs : List Span → List Span → Bool → Type 0
+Differs ws vs true = ws ≢ vs
+Differs ws vs false = ws ≡ vs
 
 -- the mark of an item's resource, the first resource's first
 abbrev pub mark_of : List Bool → Item → Bool
 mark_of marks x = slice_index_or marks (x.resource - 1) false
-
--- every item's resource has room among sixteen marks
-abbrev pub FewResources : List Item → Type 0
-FewResources xs = (k : ℕ) → k < length xs → (1 ≤ (item_at xs k).resource) × ((item_at xs k).resource ≤ 16)
 
 -- of the first n items, those of the resources not marked have windows of one length in both tables
 abbrev pub Marked : List Item → List Span → List Span → List Bool → ℕ → Type 0

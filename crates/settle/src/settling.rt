@@ -2,21 +2,14 @@
 ghost use Rattle.plan.specs.Views.{view};
 ghost use Rattle.settle.specs.Settled.{Settled};
 
-use crate::rows::write;
-use crate::sweeps::steady;
-use crate::windows::empty_windows;
+use crate::sweeps::Sweeps;
 use crate::{Fault, WindowRow};
+use consult::network::Network;
 use plan::Plan;
-use service::{Response, Rule};
+use service::Rule;
 
 /// The most sweeps of a budget.
 const MOST: u32 = 10_000;
-
-/// What stands in the answers at first.
-const NONE: Response = Response {
-    least: 0,
-    worst: None,
-};
 
 /// Sweeps over the windows of a plan's items until a sweep alters nothing, within a budget of 1 to 10,000 sweeps.
 /// Writes number, release window and finish window of each item, ascending, into the front of the table, and answers the count of sweeps.
@@ -36,10 +29,9 @@ pub fn settle<R: Rule>(
     if table.len() < items.len() {
         return Err(Fault::TableShort);
     }
-    let bits = plan.bit_times();
-    let mut windows = empty_windows();
-    let mut answers = [NONE; 256];
-    let sweeps = steady(rule, bits, items, budget, &mut windows, &mut answers)?;
-    write(items, &windows, &answers, table);
-    Ok(sweeps)
+    let network = Network::new(rule, plan.bit_times(), items);
+    let mut sweeps = Sweeps::begin(&network);
+    let count = sweeps.run(budget)?;
+    sweeps.write(table);
+    Ok(count)
 }

@@ -85,6 +85,11 @@ module _ (allows : ℕ → List Record → Trace → Type 0) (rule : Numbers) (l
         (rows_looser bits xs (blank rule bits xs) ws blank_length size (λ j hj. blank_short _ j hj) r)
         (place_on xs k) (place_below bits xs (blank rule bits xs) blank_length k h)).0
 
+  -- so the answers to empty windows are in range
+  pub blank_range : (k : ℕ) → k < length xs
+      → ((1 ≤ least_at rule bits xs (blank rule bits xs) k) × (least_at rule bits xs (blank rule bits xs) k ≤ 20000000)) × ((w : ℕ) → worst_at rule bits xs (blank rule bits xs) k ≡ Some w → (least_at rule bits xs (blank rule bits xs) k ≤ w) × ((span (blank rule bits xs) k).to - (span (blank rule bits xs) k).from + w ≤ 10000000))
+  blank_range = answers_range (blank rule bits xs) blank_length (blank_short 10000000)
+
   lead_high : (n k : ℕ) → k < n → k < length xs → lead_within rule bits xs n k ≤ 20000000 * k
   lead_high zero k lt h = absurd (not-suc-le-zero lt)
   lead_high (suc n) k lt h =
@@ -93,7 +98,7 @@ module _ (allows : ℕ → List Record → Trace → Type 0) (rule : Numbers) (l
       (λ l.
       let before : lead_within rule bits xs n l.at ≤ 20000000 * l.at = lead_high n l.at (omega (arith, l.earlier)) l.below in
       let step = lead_link rule bits xs valid n k l in
-      let least = (answers_range (blank rule bits xs) blank_length (blank_short 10000000) l.at l.below).0.1 in
+      let least = (blank_range l.at l.below).0.1 in
       let earlier = l.earlier in
       omega arith)
       (head_or_link bits xs valid k h)

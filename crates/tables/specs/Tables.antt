@@ -1,5 +1,5 @@
 -- Tables of release windows, the sweep, and what makes a table steady. `least` and `worst` are what a rule answers.
-use Rattle.std.specs.Prelude.{◌≡◌, ℕ, zero, suc, ◌+◌, ◌<◌, ◌≤◌, cond, List, map, length, replicate, Some, None, Option, ◌==◌}
+use Rattle.std.specs.Prelude.{◌≡◌, ℕ, zero, suc, ◌+◌, ◌<◌, ◌≤◌, cond, List, map, length, replicate, Some, None, Option, unwrap_or, ◌==◌}
 use Rattle.std.specs.List.{range_with_len}
 use Rattle.service.specs.Numbers.{Numbers}
 use Rattle.items.specs.declared.Item.{Item}
@@ -9,8 +9,7 @@ use Rattle.tables.specs.Demands.{Span, nowhere, span, rows_on, place_on, place_o
 
 -- a worst, or 0 if there is none
 abbrev pub worst_or_0 : Option ℕ → ℕ
-worst_or_0 None = 0
-worst_or_0 (Some w) = w
+worst_or_0 worst = unwrap_or worst 0
 
 module _ (rule : Numbers) (bits : List ℕ) (xs : List Item) where
   -- the answers for the item at k, with every jitter from the table

@@ -1,48 +1,33 @@
 -- What a settle answers and writes.
-use Rattle.std.proofs.Common.{◌≡◌, ℕ, List, length, Ok, Err, sym, ap, ◌∙◌, subst, arith}
-use Rattle.std.proofs.lemmas.Result.{err_from_is_err_and}
+use Rattle.std.proofs.Common.{◌≡◌, ℕ, List, length, Ok, sym, ap, ◌∙◌, subst, arith}
 use Rattle.items.specs.declared.Item.{Item}
 use Rattle.items.specs.Valid.{Valid}
 use Rattle.plan.specs.declared.Plan.{Plan}
 use Rattle.plan.specs.Views.{view}
 use Rattle.plan.proofs.Kept.{plan_valid}
 use Rattle.settle.specs.Settled.{Settled}
-use Rattle.settle.proofs.Fronts.{front_empty}
-use Rattle.settle.proofs.Records.{settled_count, settled_fault}
+use Rattle.settle.proofs.Records.{settled_count}
 use Rattle.settle.proofs.settling.settle.Goals as goal
 
 -- what the plan tells of itself is valid
 told_valid : (p : Plan) (bits : List ℕ) (xs : List Item) → bits ≡ (view p).bits → xs ≡ (view p).items → Valid bits xs
 told_valid p bits xs b x = subst (λ (ys : List Item). Valid bits ys) (sym x) (subst (λ (cs : List ℕ). Valid cs (view p).items) (sym b) (plan_valid p))
 
--- and what holds of it holds of the plan
-of_plan : (p : Plan) (bits : List ℕ) (xs : List Item) (P : List ℕ → List Item → Type 0) → bits ≡ (view p).bits → xs ≡ (view p).items → P bits xs → P (view p).bits (view p).items
-of_plan p bits xs P b x h = subst (λ (cs : List ℕ). P cs (view p).items) b (subst (λ (ys : List Item). P bits ys) x h)
+-- what holds of a network holds of the rule and the plan that it was made of
+of_made : {R : Type 0} (P : R → List ℕ → List Item → Type 0) (r s : R) (bits cs : List ℕ) (xs ys : List Item) → r ≡ s → bits ≡ cs → xs ≡ ys → P r bits xs → P s cs ys
+of_made P r s bits cs xs ys er eb ex p = subst (λ t. P t cs ys) er (subst (λ bs. P r bs ys) eb (subst (P r bits) ex p))
 
-pub steady-requires : goal.steady-requires
-steady-requires g c =
-    let valid = told_valid c.args.plan.now c.bit_times-bits.result.now c.items-items.result.now c.bit_times-bits.ensures c.items-items.ensures in
-    record { valid = valid; empty = front_empty c.empty_windows-windows.result (length c.items-items.result.now) c.empty_windows-windows.ensures valid.size }
-
-pub returns-in_err-sweeps : goal.returns-in_err-sweeps
-returns-in_err-sweeps g c =
-    let bits = c.bit_times-bits.result.now in
-    let xs = c.items-items.result.now in
-    let made = c.in_err-sweeps.ensures in
-    let out = err_from_is_err_and c.from_residual.result c.from_residual.ensures.1 in
-    of_plan c.args.plan.now bits xs
-    (λ b x. Settled (g.R.Rule.allows c.args.rule.now) (g.R.Rule.numbers c.args.rule.now) b x c.args.budget c.args.table.now c.args.table.now c.from_residual.result)
-    c.bit_times-bits.ensures c.items-items.ensures
-    (settled_fault _ _ bits xs c.args.budget c.args.table.now c.in_err-sweeps.field-0.0 c.from_residual.result (out.1 ∙ ap Err out.2) (omega arith, omega arith) (omega arith) made.ends)
+pub new-network-requires : goal.new-network-requires
+new-network-requires g c = told_valid c.args.plan.now c.bit_times.result.now c.items-items.result.now c.bit_times.ensures c.items-items.ensures
 
 pub returns : goal.returns
 returns g c =
-    let bits = c.bit_times-bits.result.now in
-    let xs = c.items-items.result.now in
-    let valid = told_valid c.args.plan.now bits xs c.bit_times-bits.ensures c.items-items.ensures in
-    let made = c.in_ok-sweeps.ensures in
-    of_plan c.args.plan.now bits xs
-    (λ b x. Settled (g.R.Rule.allows c.args.rule.now) (g.R.Rule.numbers c.args.rule.now) b x c.args.budget c.args.table.now c.write.new.table (Ok c.in_ok-sweeps.sweeps))
-    c.bit_times-bits.ensures c.items-items.ensures
-    (settled_count _ _ bits xs c.args.budget c.in_ok-sweeps.sweeps c.steady.new.windows c.steady.new.answers c.args.table.now c.write.new.table
-    (g.met.R.Rule.lawful c.args.rule.now) valid (omega arith, omega arith) (omega arith) made.ends made.left (omega arith) c.write.ensures.rows c.write.ensures.rest)
+    let network = c.run.new.self.network.now in
+    let made = ap (λ b. b.now) c.in_ok-count.ensures.same ∙ c.begin-sweeps.ensures.same in
+    let long : length network.items.now ≡ length c.items-items.result.now = ap (λ n. length n.items.now) made ∙ ap length c.new-network.ensures.items in
+    of_made
+    (λ r b x. Settled (g.R.Rule.allows r) (g.R.Rule.numbers r) b x c.args.budget c.args.table.now c.write.new.table (Ok c.in_ok-count.count))
+    network.rule.now c.args.rule.now network.bits.now _ network.items.now _
+    (ap (λ n. n.rule.now) made ∙ c.new-network.ensures.rule) (ap (λ n. n.bits.now) made ∙ c.new-network.ensures.bits ∙ c.bit_times.ensures) (ap (λ n. n.items.now) made ∙ c.new-network.ensures.items ∙ c.items-items.ensures)
+    (settled_count _ _ network.bits.now network.items.now c.args.budget c.in_ok-count.count c.run.new.self.windows c.run.new.self.answers c.args.table.now c.write.new.table
+    (g.met.R.Rule.lawful network.rule.now) network.valid (omega arith, omega arith) (omega arith) c.in_ok-count.ensures.ends c.in_ok-count.ensures.left (omega arith) c.write.ensures.rows c.write.ensures.rest)

@@ -7,4 +7,4 @@ use Rattle.settle.proofs.windows.lead.Given as goal
 
 -- the windows that were passed are those of the first table, and open low
 abbrev pub invariant-loop-at : goal.invariant-loop-at
-invariant-loop-at l = (length l.windows ≡ 256) × Led l.items l.answers (spans_of l.windows) l.at × ((k : ℕ) → k < l.at → (span (spans_of l.windows) k).from ≤ 20000000 * k)
+invariant-loop-at g l = (length l.windows ≡ 256) × Led l.network.items.now l.answers (spans_of l.windows) l.at × ((k : ℕ) → k < l.at → (span (spans_of l.windows) k).from ≤ 20000000 * k)

@@ -1,0 +1,13 @@
+-- What the walk of `rows_on` keeps.
+use Rattle.std.proofs.Common.{◌≡◌, ◌≤◌, ◌++◌, length, take, drop}
+use Rattle.tables.specs.Demands.{rows_on}
+use Rattle.consult.specs.Windows.{front}
+use Rattle.consult.proofs.network.Network.rows_on.Given as goal
+
+-- the rows gathered, and those of what is left
+abbrev pub invariant-loop-at : goal.invariant-loop-at
+invariant-loop-at g l =
+    let bits = l.self.bits.now in
+    let xs = l.self.items.now in
+    let ws = front (length xs) l.windows in
+    (length l.rows ≡ 256) × (l.count ≤ l.at) × (take l.count l.rows ++ rows_on bits xs l.resource (drop l.at xs) (drop l.at ws) ≡ rows_on bits xs l.resource xs ws)
