@@ -1,5 +1,6 @@
 -- What the words of a line are.
-use Rattle.std.proofs.Common.{◌≡◌, ℕ, zero, suc, true, List, [], ◌∷◌, length, get_or, IfOk, Some, None, Ok, Err, Result, sym, refl, ap, ◌∙◌, subst, Bor}
+use Rattle.std.proofs.Common.{◌≡◌, ℕ, true, List, [], ◌∷◌, length, get_or, IfOk, Some, None, Ok, Err, Result, sym, ap, ◌∙◌, subst, Bor}
+use Rattle.std.proofs.Math.ListN.{get_or-map}
 use Rattle.std.specs.declared.str.SplitWhitespace.{SplitWhitespace}
 use Rattle.std.specs.Iterator.{Yields}
 use Rattle.std.specs.Str.Iter.{split_whitespace_rest, split_whitespace_steps}
@@ -32,9 +33,7 @@ abbrev pub no_word : Bor (List ℕ)
 no_word = record { ref_ptr = (0, 0); now = [] }
 
 pub text_at : (ws : List (Bor (List ℕ))) (k : ℕ) → (get_or ws k no_word).now ≡ get_or (texts ws) k []
-text_at [] k = refl
-text_at (w ∷ ws) zero = refl
-text_at (w ∷ ws) (suc k) = text_at ws k
+text_at ws k = sym (get_or-map (λ w. w.now) ws k no_word)
 
 pub said_at : (ws : List (Bor (List ℕ))) (k n : ℕ) → Writes (get_or ws k no_word).now n → Writes (get_or (texts ws) k []) n
 said_at ws k n h = subst (λ w. Writes w n) (text_at ws k) h
