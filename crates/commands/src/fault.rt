@@ -1,13 +1,15 @@
 //! What can be wrong with a line of a script, and the message that says it.
 ghost use Rattle.std.specs.Prelude.{◌≡◌};
-ghost use Rattle.commands.specs.declared.fault.Wrong.TheVariants.{Memory};
+ghost use Rattle.commands.specs.declared.fault.Wrong.TheVariants.{Memory, Numeral};
 ghost use Rattle.commands.specs.Limits.{most_of};
 
 use std::alloc::{AllocError, AllocFailed};
 use std::fmt;
+use thiserror::Error;
+use words::numbers::{NoNumber, Quantity};
 
 /// What a number of a line stands for.
-#[derive(Clone, Copy)]
+#[derive(Clone, Copy, Debug)]
 pub enum Field {
     Number,
     Resource,
@@ -24,11 +26,10 @@ pub enum Field {
     Rows,
 }
 
-impl Field {
-    /// The largest number that may stand there.
-    pub fn most(&self) -> u32
-        ensures { result ≡ most_of self.now }
-    {
+impl Quantity for Field {
+    ghost most = { most_of };
+
+    fn most(&self) -> u32 {
         match self {
             Field::Number | Field::Resource | Field::Predecessor => 65535,
             Field::BitTime => 255,
@@ -59,7 +60,7 @@ impl fmt::Display for Field {
 }
 
 /// The form of a line: its first word, and what stands after it.
-#[derive(Clone, Copy)]
+#[derive(Clone, Copy, Debug)]
 pub enum Form {
     Open,
     Place,
@@ -87,16 +88,29 @@ impl fmt::Display for Form {
 }
 
 /// What is wrong with a line. What was found instead borrows the line.
-#[derive(Clone, Copy)]
+#[derive(Clone, Copy, Debug, Error)]
 pub enum Wrong<'a> {
     /// The first word is no command.
+    #[error("expected open, place, withdraw, retime, undo, settle or items, found {0:?}")]
     Command(&'a str),
     /// The words do not have the form of their command.
+    #[error("expected {0}")]
     Shape(Form),
     /// A word is no number that may stand there.
-    Numeral(Field, &'a str),
+    #[error("{0}")]
+    Numeral(NoNumber<'a, Field>),
     /// There is no memory for what the line says.
+    #[error("there is no memory left")]
     Memory,
+}
+
+// The conversions are written out: a derive's say nothing of the error, which contracts name.
+impl<'a> From<NoNumber<'a, Field>> for Wrong<'a> {
+    ghost from_gives = { λ word wrong. wrong ≡ Numeral word };
+
+    fn from(word: NoNumber<'a, Field>) -> Self {
+        Wrong::Numeral(word)
+    }
 }
 
 impl From<AllocError> for Wrong<'_> {
@@ -112,25 +126,5 @@ impl<T: Drop> From<AllocFailed<T>> for Wrong<'_> {
 
     fn from(_refused: AllocFailed<T>) -> Self {
         Wrong::Memory
-    }
-}
-
-impl fmt::Display for Wrong<'_> {
-    fn fmt<W: fmt::Write>(&self, f: &mut fmt::Formatter<W>) -> fmt::Result {
-        match self {
-            Wrong::Command(found) => write!(
-                f,
-                "expected open, place, withdraw, retime, undo, settle or items, found {found:?}"
-            ),
-            Wrong::Shape(form) => write!(f, "expected {form}"),
-            Wrong::Numeral(field, found) => {
-                let most = field.most();
-                write!(
-                    f,
-                    "expected a number from 0 to {most} for the {field}, found {found:?}"
-                )
-            }
-            Wrong::Memory => f.write_str("there is no memory left"),
-        }
     }
 }

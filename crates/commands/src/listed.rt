@@ -1,22 +1,9 @@
 //! An item as a script names it: the words after `place`.
 ghost use Rattle.std.specs.Prelude.{Some};
-ghost use Rattle.commands.specs.Listed.{three_words, work_words, item_words};
+ghost use Rattle.commands.specs.Listed.{work_words, item_words};
 
 use items::{Item, Work};
 use std::fmt;
-
-/// Three numbers in a row.
-#[derive(Clone, Copy)]
-struct Three(u32, u32, u32);
-
-impl fmt::Display for Three {
-    ghost output = { λ n. Some (three_words n.0 n.1 n.2) };
-
-    fn fmt<W: fmt::Write>(&self, f: &mut fmt::Formatter<W>) -> fmt::Result {
-        let Three(a, b, c) = *self;
-        write!(f, "{a} {b} {c}")
-    }
-}
 
 /// The work of an item, to be shown as a script names it.
 #[derive(Clone, Copy)]
@@ -41,14 +28,19 @@ impl fmt::Display for Listed {
     ghost output = { λ l. Some (item_words l.0) };
 
     fn fmt<W: fmt::Write>(&self, f: &mut fmt::Formatter<W>) -> fmt::Result {
-        let item = self.0;
-        let first = Three(
-            u32::from(item.number),
-            u32::from(item.resource),
-            item.priority,
-        );
-        let work = Named(item.work);
-        let last = Three(u32::from(item.predecessor), item.period, item.delay);
-        write!(f, "{first} {work} {last}")
+        let Item {
+            number,
+            resource,
+            priority,
+            work,
+            predecessor,
+            period,
+            delay,
+        } = self.0;
+        let work = Named(work);
+        write!(
+            f,
+            "{number} {resource} {priority} {work} {predecessor} {period} {delay}"
+        )
     }
 }

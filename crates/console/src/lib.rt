@@ -21,9 +21,10 @@ pub fn hear(rt: &HostRuntime) -> Result<Vec<u8>, ExitCode>
     ensures { IfErr result (λ status. exit_status status ≡ 1) }
 {
     let mut bytes = Vec::new(rt.alloc());
-    if let Err(error) = rt.stdin().read_to_end(&mut bytes) {
-        return Err(fail(rt, format_args!("standard input cannot be read: {error}")));
-    }
+    rt.stdin().read_to_end(&mut bytes).map_err(|error| fail(
+        rt,
+        format_args!("standard input cannot be read: {error}"),
+    ))?;
     Ok(bytes)
 }
 
@@ -31,13 +32,10 @@ pub fn hear(rt: &HostRuntime) -> Result<Vec<u8>, ExitCode>
 pub fn tell(rt: &HostRuntime, text: impl Display + Drop) -> Result<(), ExitCode>
     ensures { IfErr result (λ status. exit_status status ≡ 1) }
 {
-    if let Err(error) = print!(rt; "{text}") {
-        return Err(fail(
-            rt,
-            format_args!("standard output cannot be written: {error}"),
-        ));
-    }
-    Ok(())
+    print!(rt; "{text}").map_err(|error| fail(
+        rt,
+        format_args!("standard output cannot be written: {error}"),
+    ))
 }
 
 /// The status of a program that came to its end, or failed with a status.

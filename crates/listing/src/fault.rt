@@ -1,12 +1,15 @@
 //! What can be wrong with a text that is read, and the message that says it.
 ghost use Rattle.std.specs.Prelude.{◌≡◌};
-ghost use Rattle.listing.specs.declared.fault.Wrong.TheVariants.{Memory};
+ghost use Rattle.listing.specs.declared.fault.Wrong.TheVariants.{Number};
 
-use std::alloc::{AllocError, AllocFailed};
+use std::alloc::AllocError;
 use std::fmt;
+use thiserror::Error;
+use words::faults::AtLine;
+use words::numbers::{NoNumber, Quantity};
 
 /// One of the five numbers of a row.
-#[derive(Clone, Copy)]
+#[derive(Clone, Copy, Debug)]
 pub enum Field {
     Priority,
     Period,
@@ -27,74 +30,44 @@ impl fmt::Display for Field {
     }
 }
 
+impl Quantity for Field {
+    ghost most = { λ _. 4294967295 };
+
+    fn most(&self) -> u32 {
+        u32::MAX
+    }
+}
+
 /// What is wrong with a line. What was found instead borrows the text.
-#[derive(Clone, Copy)]
+#[derive(Clone, Copy, Debug, Error)]
 pub enum Wrong<'a> {
     /// The bytes of the line are no text.
+    #[error("expected text in UTF-8")]
     Encoding,
     /// The line is no bit time.
+    #[error("expected a bit time from 0 to 255, found {0:?}")]
     BitTime(&'a str),
     /// The text ends where the bit time should stand.
+    #[error("expected a bit time from 0 to 255, found the end of the text")]
     End,
     /// The line has another number of words than a row.
+    #[error("expected 5 numbers (priority, period, jitter, least, greatest), found {0}")]
     Count(usize),
     /// A word is no number.
-    Number(Field, &'a str),
+    #[error("{0}")]
+    Number(NoNumber<'a, Field>),
     /// There is no memory for what the line says.
-    Memory,
+    #[error("there is no memory left")]
+    Memory(#[from(alloc)] AllocError),
 }
 
-impl From<AllocError> for Wrong<'_> {
-    ghost from_gives = { λ _ wrong. wrong ≡ Memory };
+impl<'a> From<NoNumber<'a, Field>> for Wrong<'a> {
+    ghost from_gives = { λ word wrong. wrong ≡ Number word };
 
-    fn from(_error: AllocError) -> Self {
-        Wrong::Memory
+    fn from(word: NoNumber<'a, Field>) -> Self {
+        Wrong::Number(word)
     }
 }
 
-impl<T: Drop> From<AllocFailed<T>> for Wrong<'_> {
-    ghost from_gives = { λ _ wrong. wrong ≡ Memory };
-
-    fn from(_refused: AllocFailed<T>) -> Self {
-        Wrong::Memory
-    }
-}
-
-impl fmt::Display for Wrong<'_> {
-    fn fmt<W: fmt::Write>(&self, f: &mut fmt::Formatter<W>) -> fmt::Result {
-        match self {
-            Wrong::Encoding => f.write_str("expected text in UTF-8"),
-            Wrong::BitTime(found) => write!(
-                f,
-                "expected a bit time from 0 to 255, found {found:?}"
-            ),
-            Wrong::End => f.write_str(
-                "expected a bit time from 0 to 255, found the end of the text",
-            ),
-            Wrong::Count(found) => write!(
-                f,
-                "expected 5 numbers (priority, period, jitter, least, greatest), found {found}"
-            ),
-            Wrong::Number(field, found) => write!(
-                f,
-                "expected a number from 0 to 4294967295 for the {field}, found {found:?}"
-            ),
-            Wrong::Memory => f.write_str("there is no memory left"),
-        }
-    }
-}
-
-/// What is wrong, and with which line, counted from 1.
-#[derive(Clone, Copy)]
-pub struct Fault<'a> {
-    pub line: usize,
-    pub wrong: Wrong<'a>,
-}
-
-impl fmt::Display for Fault<'_> {
-    fn fmt<W: fmt::Write>(&self, f: &mut fmt::Formatter<W>) -> fmt::Result {
-        let line = self.line;
-        let wrong = self.wrong;
-        write!(f, "line {line}: {wrong}")
-    }
-}
+/// What is wrong, and with which line.
+pub type Fault<'a> = AtLine<Wrong<'a>>;

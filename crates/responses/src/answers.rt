@@ -18,11 +18,9 @@ fn ask<R: Rule>(
 ) -> Result<Vec<Response>, AllocError>
     ensures { IfOk result (λ v. Answered ((R.Rule.numbers rule.now).least bit_time records.now) ((R.Rule.numbers rule.now).worst bit_time records.now) (length records.now) v.items) }
 {
-    let mut answers = Vec::new(heap);
-    for place in 0..records.len() {
-        answers.push(rule.respond(bit_time, records, place))?;
-    }
-    Ok(answers)
+    (0..records.len())
+        .map(|place| rule.respond(bit_time, records, place))
+        .collect(heap)
 }
 
 /// The answers for a processor at bit time 0, for a bus at any other.
@@ -47,9 +45,9 @@ impl fmt::Display for Line {
     ghost output = { λ l. Some (answer_line l.place l.answer) };
 
     fn fmt<W: fmt::Write>(&self, f: &mut fmt::Formatter<W>) -> fmt::Result {
-        let place = self.place;
-        let least = self.answer.least;
-        match self.answer.worst {
+        let Line { place, answer } = *self;
+        let least = answer.least;
+        match answer.worst {
             Some(worst) => write!(f, "{place} {least} {worst}"),
             None => write!(f, "{place} {least} none"),
         }

@@ -15,10 +15,7 @@ fn run(rt: &HostRuntime) -> Result<(), ExitCode>
 {
     let heap = rt.alloc();
     let bytes = hear(rt)?;
-    let resource = match listing::text::read(heap, bytes.as_slice()) {
-        Ok(resource) => resource,
-        Err(fault) => return Err(fail(rt, fault)),
-    };
+    let resource = listing::text::read(heap, bytes.as_slice()).map_err(|fault| fail(rt, fault))?;
     let Ok(answers) = answers::answers(heap, resource.bit_time, resource.records.as_slice()) else {
         return Err(fail(rt, "there is no memory left for the answers"));
     };

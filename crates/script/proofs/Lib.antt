@@ -1,4 +1,2 @@
 pub mod Bits
 pub mod Reading
-pub mod Settled
-pub mod Spoken

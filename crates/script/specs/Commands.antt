@@ -85,7 +85,7 @@ Said form ws command = (form_of command ≡ form) × Fits ws command
 abbrev pub Amiss : Form → List (List ℕ) → Wrong → Type 0
 Amiss form ws (wrongs.Command found) = ⊥
 Amiss form ws (wrongs.Shape other) = other ≡ form
-Amiss form ws (wrongs.Numeral field found) = Misread ws (wrongs.Numeral field found)
+Amiss form ws (wrongs.Numeral e) = Misread ws (wrongs.Numeral e)
 Amiss form ws wrongs.Memory = Unit {0}
 
 -- the words say the command
@@ -96,7 +96,7 @@ SaysCommand ws command = (slice_index_or ws 0 [] ≡ keyword (form_of command)) 
 abbrev pub Faulty : List (List ℕ) → Wrong → Type 0
 Faulty ws (wrongs.Command found) = (found.now ≡ slice_index_or ws 0 []) × ((form : Form) → found.now ≢ keyword form)
 Faulty ws (wrongs.Shape form) = slice_index_or ws 0 [] ≡ keyword form
-Faulty ws (wrongs.Numeral field found) = Misread ws (wrongs.Numeral field found)
+Faulty ws (wrongs.Numeral e) = Misread ws (wrongs.Numeral e)
 Faulty ws wrongs.Memory = Unit {0}
 
 -- the words of the line say the command

@@ -1,52 +1,45 @@
 //! Reading a line of a script.
-ghost use Rattle.std.specs.Prelude.{◌+◌, ◌<◌, ◌≤◌, length, MatchResult};
-ghost use Rattle.words.specs.Spoken.{texts};
+ghost use Rattle.std.specs.Prelude.{◌+◌, ◌<◌, ◌≤◌, ◌∷◌, length, MatchResult};
+ghost use Rattle.words.specs.Spoken.{Reads, texts};
+ghost use Rattle.commands.specs.Limits.{most_of};
 ghost use Rattle.commands.specs.declared.fault.Form.TheVariants as forms;
-ghost use Rattle.script.specs.Fields.{Reads, Numbers, WordWrong, Misread};
-ghost use Rattle.script.specs.Commands.{WorkWords, Amiss, Said, SaysCommand, Faulty, CommandLine, LineWrong};
+ghost use Rattle.script.specs.Fields.{Misread};
+ghost use Rattle.script.specs.Commands.{WorkWords, Given, Amiss, Said, SaysCommand, Faulty, CommandLine, LineWrong};
 
 use commands::command::Command;
 use commands::fault::{Field, Form, Wrong};
 use items::{Item, Work};
 use std::alloc::Global;
-use words::{number_up_to, words_of};
+use words::numbers::number_of;
+use words::words_of;
 
-/// The number that a word writes for a field.
-fn number_of<'a>(field: Field, word: &'a str) -> Result<u32, Wrong<'a>>
-    ensures { MatchResult result (λ n. Reads field word.now n) (λ e. WordWrong field word.now e) }
+/// The number that the word at a place writes for a field, or another where the words end before it.
+fn number_at<'a>(
+    words: &[&'a str],
+    at: usize,
+    field: Field,
+    otherwise: u32,
+) -> Result<u32, Wrong<'a>>
+    requires { otherwise ≤ most_of field }
+    ensures { MatchResult result (λ n. Given (texts words.now) at otherwise n × (n ≤ most_of field)) (Misread (texts words.now)) }
 {
-    match number_up_to(word, field.most()) {
-        Some(n) => Ok(n),
-        None => Err(Wrong::Numeral(field, word)),
+    match words.get(at) {
+        Some(word) => Ok(number_of(field, word)?),
+        None => Ok(otherwise),
     }
 }
 
-/// The numbers that the words from `at` on write, one for each field.
-fn numbers_of<'a>(words: &[&'a str], at: usize, fields: &[Field]) -> Result<[u32; 3], Wrong<'a>>
-    requires { (length fields.now ≤ 3) × (at + length fields.now ≤ length words.now) }
-    ensures { MatchResult result (λ ns. Numbers (texts words.now) at fields.now ns) (λ e. Misread (texts words.now) e) }
+/// The work that a word and the numbers after it say, in a line of that form.
+fn work_of<'a>(form: Form, kind: &str, numbers: &[&'a str]) -> Result<Work, Wrong<'a>>
+    ensures { MatchResult result (WorkWords (kind.now ∷ texts numbers.now) 0 (length numbers.now + 1)) (Amiss form (texts numbers.now)) }
 {
-    let mut numbers = [0; 3];
-    for k in 0..fields.len() {
-        numbers[k] = number_of(fields[k], words[at + k])?;
-    }
-    Ok(numbers)
-}
-
-/// The work that the words from `at` to `end` say, in a line of that form.
-fn work_of<'a>(words: &[&'a str], at: usize, end: usize, form: Form) -> Result<Work, Wrong<'a>>
-    requires { (at < end) × (end ≤ length words.now) }
-    ensures { MatchResult result (WorkWords (texts words.now) at end) (Amiss form (texts words.now)) }
-{
-    match (words[at], end - at) {
-        ("task", 3) => {
-            let n = numbers_of(words, at + 1, &[Field::Least, Field::Greatest])?;
-            Ok(Work::Task(n[0], n[1]))
+    match (kind, numbers) {
+        ("task", [least, greatest]) => {
+            let least = number_of(Field::Least, least)?;
+            let greatest = number_of(Field::Greatest, greatest)?;
+            Ok(Work::Task(least, greatest))
         }
-        ("frame", 2) => {
-            let n = numbers_of(words, at + 1, &[Field::Bytes])?;
-            Ok(Work::Frame(n[0]))
-        }
+        ("frame", [bytes]) => Ok(Work::Frame(number_of(Field::Bytes, bytes)?)),
         _ => Err(Wrong::Shape(form)),
     }
 }
@@ -55,25 +48,35 @@ fn work_of<'a>(words: &[&'a str], at: usize, end: usize, form: Form) -> Result<W
 fn place_of<'a>(words: &[&'a str]) -> Result<Command, Wrong<'a>>
     ensures { MatchResult result (Said forms.Place (texts words.now)) (Amiss forms.Place (texts words.now)) }
 {
-    if words.len() < 8 {
+    let [
+        _,
+        number,
+        resource,
+        priority,
+        kind,
+        numbers @ ..,
+        predecessor,
+        period,
+        delay,
+    ] = words
+    else {
         return Err(Wrong::Shape(Form::Place));
-    }
-    let end = words.len() - 3;
-    let first = numbers_of(words, 1, &[Field::Number, Field::Resource, Field::Priority])?;
-    let work = work_of(words, 4, end, Form::Place)?;
-    let last = numbers_of(
-        words,
-        end,
-        &[Field::Predecessor, Field::Period, Field::Delay],
-    )?;
+    };
+    let number = number_of(Field::Number, number)?;
+    let resource = number_of(Field::Resource, resource)?;
+    let priority = number_of(Field::Priority, priority)?;
+    let work = work_of(Form::Place, kind, numbers)?;
+    let predecessor = number_of(Field::Predecessor, predecessor)?;
+    let period = number_of(Field::Period, period)?;
+    let delay = number_of(Field::Delay, delay)?;
     Ok(Command::Place(Item {
-        number: first[0] as u16,
-        resource: first[1] as u16,
-        priority: first[2],
+        number: number as u16,
+        resource: resource as u16,
+        priority,
         work,
-        predecessor: last[0] as u16,
-        period: last[1],
-        delay: last[2],
+        predecessor: predecessor as u16,
+        period,
+        delay,
     }))
 }
 
@@ -81,59 +84,36 @@ fn place_of<'a>(words: &[&'a str]) -> Result<Command, Wrong<'a>>
 fn withdraw_of<'a>(words: &[&'a str]) -> Result<Command, Wrong<'a>>
     ensures { MatchResult result (Said forms.Withdraw (texts words.now)) (Amiss forms.Withdraw (texts words.now)) }
 {
-    if words.len() != 2 {
+    let [_, number] = words else {
         return Err(Wrong::Shape(Form::Withdraw));
-    }
-    let n = numbers_of(words, 1, &[Field::Number])?;
-    Ok(Command::Withdraw(n[0] as u16))
+    };
+    let number = number_of(Field::Number, number)?;
+    Ok(Command::Withdraw(number as u16))
 }
 
 /// `retime NUMBER WORK`.
 fn retime_of<'a>(words: &[&'a str]) -> Result<Command, Wrong<'a>>
     ensures { MatchResult result (Said forms.Retime (texts words.now)) (Amiss forms.Retime (texts words.now)) }
 {
-    if words.len() < 3 {
+    let [_, number, kind, numbers @ ..] = words else {
         return Err(Wrong::Shape(Form::Retime));
-    }
-    let n = numbers_of(words, 1, &[Field::Number])?;
-    let work = work_of(words, 2, words.len(), Form::Retime)?;
-    Ok(Command::Retime(n[0] as u16, work))
-}
-
-/// `undo`.
-fn undo_of<'a>(words: &[&'a str]) -> Result<Command, Wrong<'a>>
-    ensures { MatchResult result (Said forms.Undo (texts words.now)) (Amiss forms.Undo (texts words.now)) }
-{
-    if words.len() != 1 {
-        return Err(Wrong::Shape(Form::Undo));
-    }
-    Ok(Command::Undo)
-}
-
-/// `items`.
-fn items_of<'a>(words: &[&'a str]) -> Result<Command, Wrong<'a>>
-    ensures { MatchResult result (Said forms.Items (texts words.now)) (Amiss forms.Items (texts words.now)) }
-{
-    if words.len() != 1 {
-        return Err(Wrong::Shape(Form::Items));
-    }
-    Ok(Command::Items)
+    };
+    let number = number_of(Field::Number, number)?;
+    let work = work_of(Form::Retime, kind, numbers)?;
+    Ok(Command::Retime(number as u16, work))
 }
 
 /// `settle BUDGET`, then perhaps `SWITCH`, then perhaps `ROWS`.
 fn settle_of<'a>(words: &[&'a str]) -> Result<Command, Wrong<'a>>
     ensures { MatchResult result (Said forms.Settle (texts words.now)) (Amiss forms.Settle (texts words.now)) }
 {
-    let count = words.len();
-    if count < 2 || count > 4 {
+    if words.len() < 2 || words.len() > 4 {
         return Err(Wrong::Shape(Form::Settle));
     }
-    let fields = [Field::Budget, Field::Switch, Field::Rows];
-    let n = numbers_of(words, 1, &fields[0..count - 1])?;
     Ok(Command::Settle {
-        budget: n[0],
-        switch: if count > 2 { n[1] as u16 } else { 0 },
-        rows: if count > 3 { n[2] as usize } else { 256 },
+        budget: number_of(Field::Budget, words[1])?,
+        switch: number_at(words, 2, Field::Switch, 0)? as u16,
+        rows: number_at(words, 3, Field::Rows, 256)? as usize,
     })
 }
 
@@ -143,9 +123,9 @@ fn open_of<'a>(heap: Global, words: &[&'a str]) -> Result<Command, Wrong<'a>>
     ensures { MatchResult result (Said forms.Open (texts words.now)) (Amiss forms.Open (texts words.now)) }
 {
     let mut bits = Vec::new(heap);
-    for k in 1..words.len() {
-        let n = number_of(Field::BitTime, words[k])?;
-        bits.push(n as u8)?;
+    for word in &words[1..] {
+        let bit = number_of(Field::BitTime, word)?;
+        bits.push(bit as u8)?;
     }
     Ok(Command::Open(bits))
 }
@@ -154,18 +134,18 @@ fn open_of<'a>(heap: Global, words: &[&'a str]) -> Result<Command, Wrong<'a>>
 fn command_in<'a>(heap: Global, words: &[&'a str]) -> Result<Command, Wrong<'a>>
     ensures { MatchResult result (SaysCommand (texts words.now)) (Faulty (texts words.now)) }
 {
-    if words.len() == 0 {
-        return Err(Wrong::Command(""));
-    }
-    match words[0] {
-        "open" => open_of(heap, words),
-        "place" => place_of(words),
-        "withdraw" => withdraw_of(words),
-        "retime" => retime_of(words),
-        "undo" => undo_of(words),
-        "settle" => settle_of(words),
-        "items" => items_of(words),
-        word => Err(Wrong::Command(word)),
+    match words {
+        [] => Err(Wrong::Command("")),
+        ["open", ..] => open_of(heap, words),
+        ["place", ..] => place_of(words),
+        ["withdraw", ..] => withdraw_of(words),
+        ["retime", ..] => retime_of(words),
+        ["settle", ..] => settle_of(words),
+        ["undo"] => Ok(Command::Undo),
+        ["undo", ..] => Err(Wrong::Shape(Form::Undo)),
+        ["items"] => Ok(Command::Items),
+        ["items", ..] => Err(Wrong::Shape(Form::Items)),
+        [word, ..] => Err(Wrong::Command(word)),
     }
 }
 

@@ -1,22 +1,16 @@
 -- What the words of a line are.
-use Rattle.std.proofs.Common.{◌≡◌, ℕ, zero, suc, Bool, true, false, not, List, [], ◌∷◌, length, get_or, is_some, IfOk, Some, None, Ok, Err, MatchBool, Option, Result, sym, refl, ap, ◌∙◌, subst, inr, arith, Bor}
+use Rattle.std.proofs.Common.{◌≡◌, ℕ, true, List, [], ◌∷◌, length, get_or, IfOk, Some, None, Ok, Err, Result, sym, ap, ◌∙◌, subst, Bor}
+use Rattle.std.proofs.Math.ListN.{get_or-map}
 use Rattle.std.specs.declared.str.SplitWhitespace.{SplitWhitespace}
 use Rattle.std.specs.Iterator.{Yields}
 use Rattle.std.specs.Str.Iter.{split_whitespace_rest, split_whitespace_steps}
 use Rattle.std.specs.Iterator.Runs.{Run, YieldsRun, WholeRun}
 use Rattle.std.specs.Char.{is_not_whitespace}
 use Rattle.std.specs.Str.{NoCharPasses}
-use Rattle.words.specs.Spoken.{Writes, First, Words, PassedOver, Worded, texts}
+use Rattle.words.specs.Spoken.{Writes, First, Words, texts}
 
 first_of : (s t : SplitWhitespace) (x : Bor (List ℕ)) → split_whitespace_steps s (Some x) t → First (split_whitespace_rest s) x.now (split_whitespace_rest t)
 first_of s t x h = record { gap = h.0; cut = h.1; some = h.2; blank = h.3; solid = h.4; ends = h.5 }
-
--- what `next` says of a line that is no comment
-pub blank_or_word : (line : List ℕ) (b : Bool) (o : Option (Bor (List ℕ))) (s t : SplitWhitespace) → is_some o ≡ not b → split_whitespace_steps s o t → split_whitespace_rest s ≡ line → (get_or line 0 0 ≡ 35 → ⊥) → MatchBool b (PassedOver line) (Worded line)
-blank_or_word line true None s t e h is plain = inr (subst (NoCharPasses is_not_whitespace) is h.1)
-blank_or_word line true (Some x) s t e h is plain = absurd (grind arith)
-blank_or_word line false None s t e h is plain = absurd (grind arith)
-blank_or_word line false (Some x) s t e h is plain = record { uncommented = plain; word = x.now; rest = split_whitespace_rest t; first = subst (λ l. First l x.now (split_whitespace_rest t)) is (first_of s t x h) }
 
 words_yielded : (xs : List (Bor (List ℕ))) (s t u : SplitWhitespace) → Yields split_whitespace_steps s xs t → split_whitespace_steps t None u → Words (split_whitespace_rest s) (texts xs)
 words_yielded [] s t u same end = subst (λ r. NoCharPasses is_not_whitespace (split_whitespace_rest r)) (sym same) end.1
@@ -39,9 +33,7 @@ abbrev pub no_word : Bor (List ℕ)
 no_word = record { ref_ptr = (0, 0); now = [] }
 
 pub text_at : (ws : List (Bor (List ℕ))) (k : ℕ) → (get_or ws k no_word).now ≡ get_or (texts ws) k []
-text_at [] k = refl
-text_at (w ∷ ws) zero = refl
-text_at (w ∷ ws) (suc k) = text_at ws k
+text_at ws k = sym (get_or-map (λ w. w.now) ws k no_word)
 
 pub said_at : (ws : List (Bor (List ℕ))) (k n : ℕ) → Writes (get_or ws k no_word).now n → Writes (get_or (texts ws) k []) n
 said_at ws k n h = subst (λ w. Writes w n) (text_at ws k) h

@@ -1,5 +1,5 @@
 -- What a word writes, and what the words of a line are.
-use Rattle.std.specs.Prelude.{◌≡◌, ℕ, ◌+◌, ◌<◌, cond, ◌⊎◌, List, [], ◌∷◌, ◌++◌, map, length, ◌==◌, slice_index, slice_index_or}
+use Rattle.std.specs.Prelude.{◌≡◌, ℕ, ◌<◌, ◌≤◌, ◌⊎◌, List, [], ◌∷◌, ◌++◌, map, length, ◌==◌, count_by, slice_index, slice_index_or}
 use Rattle.std.specs.Borrow.{Bor}
 use Rattle.std.specs.Str.Parse.{IsNumeral, digits_value}
 use Rattle.std.specs.Char.{is_whitespace, is_not_whitespace}
@@ -9,6 +9,11 @@ use Rattle.std.specs.Str.{NoCharPasses, EmptyOrStartsWithPassing}
 pub record Writes (word : List ℕ) (n : ℕ) : Type 0 where
   pub numeral : IsNumeral 10 word
   pub is : n ≡ digits_value 10 word
+
+-- the word writes the number, which is no larger than it may be
+pub record Reads (most : ℕ) (word : List ℕ) (n : ℕ) : Type 0 where
+  pub writes : Writes word n
+  pub small : n ≤ most
 
 -- no number below the bound is written by the word
 abbrev pub Unreadable : ℕ → List ℕ → Type 0
@@ -45,5 +50,4 @@ pub record Worded (line : List ℕ) : Type 0 where
 
 -- how many newlines stand among the bytes
 abbrev pub newlines : List ℕ → ℕ
-newlines [] = 0
-newlines (b ∷ bs) = cond (b == 10) 1 0 + newlines bs
+newlines bytes = count_by (λ b. b == 10) bytes

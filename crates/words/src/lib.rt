@@ -1,22 +1,22 @@
-//! What the reading of lines shares: the number that a word writes, the words of a line, the lines to pass over, the count of lines.
+//! What the reading of lines shares: the number that a word writes, the words of a line, the lines to pass over, the count of lines, and what is said of a line that cannot be read.
 #![tactic(auto)]
 
-ghost use Rattle.std.specs.Prelude.{◌≡◌, ◌+◌, ◌≤◌, IfOk, MatchBool, MatchOption};
-ghost use Rattle.words.specs.Spoken.{Writes, Unreadable, Words, PassedOver, Worded, texts, newlines};
+ghost use Rattle.std.specs.Prelude.{◌≡◌, ◌+◌, IfOk, MatchBool, MatchOption};
+ghost use Rattle.words.specs.Spoken.{Reads, Unreadable, Words, PassedOver, Worded, texts, newlines};
 
 use std::alloc::{AllocError, Global};
 
+pub mod faults;
+pub mod numbers;
+
 /// The number that a word writes in decimal, if it is one up to `most`.
 pub fn number_up_to(word: &str, most: u32) -> Option<u32>
-    ensures { MatchOption result (Unreadable (most + 1) word.now) (λ n. Writes word.now n × (n ≤ most)) }
+    ensures { MatchOption result (Unreadable (most + 1) word.now) (Reads most word.now) }
 {
     if word.starts_with('+') {
         return None;
     }
-    match word.parse::<u32>() {
-        Ok(n) => if n <= most { Some(n) } else { None },
-        Err(_) => None,
-    }
+    word.parse().ok().filter(|n| *n <= most)
 }
 
 /// Whether a line is a comment, or blank.
@@ -37,11 +37,5 @@ pub fn words_of<'a>(heap: Global, line: &'a str) -> Result<Vec<&'a str>, AllocEr
 pub fn line_after(before: &[u8]) -> usize
     ensures { result ≡ 1 + newlines before.now }
 {
-    let mut line = 1;
-    for byte in before {
-        if *byte == b'\n' {
-            line += 1;
-        }
-    }
-    line
+    1 + before.iter().filter(|byte| **byte == b'\n').count()
 }

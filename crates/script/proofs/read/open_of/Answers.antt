@@ -1,29 +1,20 @@
-use Rattle.std.proofs.Common.{◌≡◌, length, vec_items, refl, subst, arith}
-use Rattle.std.proofs.lemmas.List.{length-map}
-use Rattle.words.specs.Spoken.{texts}
+use Rattle.std.proofs.Common.{◌+◌, vec_items, subst, arith}
+use Rattle.words.specs.Misread.{WordWrong}
+use Rattle.words.specs.Spoken.{Writes}
 use Rattle.commands.specs.declared.fault.Field.TheVariants.{BitTime}
 use Rattle.commands.specs.declared.fault.Form.TheVariants.{Open}
-use Rattle.commands.specs.declared.fault.Wrong.TheVariants.{Memory}
-use Rattle.script.specs.Commands.{BitWords, Amiss}
-use Rattle.script.proofs.Bits.{bit_more}
-use Rattle.script.proofs.Reading.{handed, misread, misread_at}
+use Rattle.script.proofs.Bits.{bit_more, behind_first}
+use Rattle.script.proofs.Reading.{misread}
 use Rattle.script.proofs.read.open_of.Goals as goal
 
-pub loop-k-preserved : goal.loop-k-preserved
-loop-k-preserved c =
-    bit_more c.args.words.now (vec_items c.loop-k.bits) (vec_items c.push.new.self) c.loop-k.k c.in_ok-n.n
-    c.in_ok-push.ensures.items c.loop-k.invariant c.in_ok-n.ensures.writes
+pub loop-word-preserved : goal.loop-word-preserved
+loop-word-preserved c =
+    let k = c.loop-word.word-index in
+    let word = subst (λ w. Writes w c.in_ok-bit.bit) (behind_first c.args.words.now k) c.in_ok-bit.ensures.writes in
+    bit_more c.args.words.now (vec_items c.loop-word.bits) (vec_items c.push.new.self) (k + 1) c.in_ok-bit.bit c.in_ok-push.ensures.items c.loop-word.invariant word
 
-pub returns-in_err-n : goal.returns-in_err-n
-returns-in_err-n c =
-    misread Open (texts c.args.words.now) c.from_residual.result _ c.in_err-n.field-0.0 c.from_residual.ensures.1
-    (misread_at c.args.words.now c.loop-k.k c.loop-k-test.true BitTime _ c.in_err-n.ensures)
-
-pub returns-in_err-push : goal.returns-in_err-push
-returns-in_err-push c = handed c.from_residual-in_err-push.result _ (Amiss Open (texts c.args.words.now)) Memory c.from_residual-in_err-push.ensures.1 tt
-
-pub returns : goal.returns
-returns c =
-    let words = c.args.words.now in
-    let all : c.loop-k.k ≡ length (texts words) = omega (arith, length-map words (λ w. w.now)) in
-    (refl, subst (λ end. BitWords (texts words) end (vec_items c.loop-k.bits)) all c.loop-k.invariant)
+pub returns-in_err-bit : goal.returns-in_err-bit
+returns-in_err-bit c =
+    let k = c.loop-word.word-index in
+    let word = subst (λ w. WordWrong 255 BitTime w c.in_err-bit.field-0.0) (behind_first c.args.words.now k) c.in_err-bit.ensures in
+    misread c.args.words.now Open (k + 1) BitTime _ _ _ c.from_residual.ensures.1 (omega arith) word

@@ -1,0 +1,102 @@
+//! What was said so far, and the session that is open.
+use crate::session::{DeskRule, Session, say_sent};
+use crate::stop::{Reason, Stop};
+use commands::command::Command;
+use conditions::check_open;
+use rules::bus::Bus;
+use rules::pair::Pair;
+use rules::processor::Processor;
+use rules::switch::Switch;
+use script::read::command_of;
+use std::alloc::{AllocError, Global};
+use texts::SentBack;
+use visits::visit::Visit;
+use words::faults::{AtLine, text_of};
+use words::is_passed_over;
+
+/// The rule under a switch, of at most 1,000 ticks.
+fn rule_of(switch: u16) -> Result<DeskRule, Reason<'static>> {
+    let Ok(first) = Switch::over(Processor, switch) else {
+        return Err(Reason::Switch);
+    };
+    Ok(Pair { first, second: Bus })
+}
+
+#[derive(Drop)]
+pub struct Desk {
+    pub said: String,
+    session: Option<Session>,
+}
+
+impl Desk {
+    pub fn new(heap: Global) -> Desk {
+        Desk {
+            said: String::new(heap),
+            session: None,
+        }
+    }
+
+    /// Ends the open session, if there is one.
+    pub fn close(&mut self, heap: Global) -> Result<(), AllocError> {
+        match self.session.take() {
+            None => Ok(()),
+            Some(session) => session.tell(heap, &mut self.said),
+        }
+    }
+
+    /// Opens a plan over the bit times, or notes the refusal.
+    fn open(&mut self, heap: Global, bit_times: Vec<u8>) -> Result<(), AllocError> {
+        if let Err(refusal) = check_open(bit_times.as_slice()) {
+            return match &mut self.session {
+                None => say_sent(&mut self.said, SentBack::Plan(refusal)),
+                Some(session) => session.refuse(refusal),
+            };
+        }
+        self.close(heap)?;
+        self.session = Some(Session::new(heap, bit_times));
+        Ok(())
+    }
+
+    /// Takes what a line asks.
+    fn take<'a>(&mut self, heap: Global, line: &'a str) -> Result<(), Reason<'a>> {
+        if is_passed_over(line) {
+            return Ok(());
+        }
+        let visit = match command_of(heap, line)? {
+            Command::Open(bit_times) => return Ok(self.open(heap, bit_times)?),
+            Command::Place(item) => Visit::Place(item),
+            Command::Withdraw(number) => Visit::Withdraw(number),
+            Command::Retime(number, work) => Visit::Retime(number, work),
+            Command::Undo => Visit::Undo,
+            Command::Items => Visit::Items,
+            Command::Settle {
+                budget,
+                switch,
+                rows,
+            } => Visit::Settle(rule_of(switch)?, budget, rows),
+        };
+        match &mut self.session {
+            None => Err(Reason::NoPlan),
+            Some(session) => Ok(session.visit(visit)?),
+        }
+    }
+
+    /// Takes every line of a text, up to the first that cannot be read.
+    fn take_all<'a>(&mut self, heap: Global, text: &'a str) -> Result<(), Stop<'a>> {
+        for (at, asked) in text.lines().enumerate() {
+            if let Err(wrong) = self.take(heap, asked) {
+                return Err(AtLine {
+                    line: at + 1,
+                    wrong,
+                });
+            }
+        }
+        Ok(())
+    }
+
+    /// Takes every line of the bytes, which have to be text.
+    pub fn hear<'a>(&mut self, heap: Global, bytes: &'a [u8]) -> Result<(), Stop<'a>> {
+        let text = text_of(bytes, Reason::Encoding)?;
+        self.take_all(heap, text)
+    }
+}

@@ -1,2 +1,0 @@
--- Lemmas on lists that grow.
-pub mod Grown
