@@ -1,26 +1,16 @@
 //! What was said so far, and the session that is open.
-use crate::session::{DeskRule, Session, say_sent};
+use crate::session::{Session, say_sent};
 use crate::stop::{Reason, Stop};
 use commands::command::Command;
 use conditions::check_open;
-use rules::bus::Bus;
-use rules::pair::Pair;
-use rules::processor::Processor;
-use rules::switch::Switch;
+use rules::machine::machine;
 use script::read::command_of;
-use std::alloc::{AllocError, Global};
+use std::alloc::Global;
 use texts::SentBack;
+use visits::replay;
 use visits::visit::Visit;
 use words::faults::{AtLine, text_of};
 use words::is_passed_over;
-
-/// The rule under a switch, of at most 1,000 ticks.
-fn rule_of(switch: u16) -> Result<DeskRule, Reason<'static>> {
-    let Ok(first) = Switch::over(Processor, switch) else {
-        return Err(Reason::Switch);
-    };
-    Ok(Pair { first, second: Bus })
-}
 
 #[derive(Drop)]
 pub struct Desk {
@@ -37,7 +27,7 @@ impl Desk {
     }
 
     /// Ends the open session, if there is one.
-    pub fn close(&mut self, heap: Global) -> Result<(), AllocError> {
+    pub fn close(&mut self, heap: Global) -> Result<(), replay::Stop> {
         match self.session.take() {
             None => Ok(()),
             Some(session) => session.tell(heap, &mut self.said),
@@ -45,14 +35,15 @@ impl Desk {
     }
 
     /// Opens a plan over the bit times, or notes the refusal.
-    fn open(&mut self, heap: Global, bit_times: Vec<u8>) -> Result<(), AllocError> {
+    fn open(&mut self, heap: Global, bit_times: Vec<u8>) -> Result<(), Reason<'static>> {
         if let Err(refusal) = check_open(bit_times.as_slice()) {
-            return match &mut self.session {
-                None => say_sent(&mut self.said, SentBack::Plan(refusal)),
-                Some(session) => session.refuse(refusal),
-            };
+            match &mut self.session {
+                None => say_sent(&mut self.said, SentBack::Plan(refusal))?,
+                Some(session) => session.refuse(refusal)?,
+            }
+            return Ok(());
         }
-        self.close(heap)?;
+        self.close(heap).map_err(|_| Reason::Unreplayed)?;
         self.session = Some(Session::new(heap, bit_times));
         Ok(())
     }
@@ -63,7 +54,7 @@ impl Desk {
             return Ok(());
         }
         let visit = match command_of(heap, line)? {
-            Command::Open(bit_times) => return Ok(self.open(heap, bit_times)?),
+            Command::Open(bit_times) => return self.open(heap, bit_times),
             Command::Place(item) => Visit::Place(item),
             Command::Withdraw(number) => Visit::Withdraw(number),
             Command::Retime(number, work) => Visit::Retime(number, work),
@@ -73,7 +64,7 @@ impl Desk {
                 budget,
                 switch,
                 rows,
-            } => Visit::Settle(rule_of(switch)?, budget, rows),
+            } => Visit::Settle(machine(switch).ok_or(Reason::Switch)?, budget, rows),
         };
         match &mut self.session {
             None => Err(Reason::NoPlan),

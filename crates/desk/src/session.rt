@@ -1,20 +1,15 @@
 //! A plan that is open: what was asked of it, and what is said of the answers.
 use commands::listed::Listed;
 use items::{Item, Refusal};
-use rules::bus::Bus;
-use rules::pair::Pair;
-use rules::processor::Processor;
-use rules::switch::Switch;
+use rules::machine::Machine;
 use std::alloc::{AllocError, Global};
 use texts::{SentBack, Windows};
+use visits::replay::Stop;
 use visits::replay::list::replay;
 use visits::visit::{Answer, Visit};
 
-/// The rule of the desk: processors under a switch, and buses.
-pub type DeskRule = Pair<Switch<Processor>, Bus>;
-
 /// What is said of an accepted edit or undo.
-fn done(visit: &Visit<DeskRule>) -> &'static str {
+fn done(visit: &Visit<Machine>) -> &'static str {
     match visit {
         Visit::Place(_) => "placed",
         Visit::Withdraw(_) => "withdrawn",
@@ -39,21 +34,21 @@ fn say_items(said: &mut String, items: &[Item]) -> Result<(), AllocError> {
 }
 
 /// What a visit is answered.
-fn say(said: &mut String, visit: &Visit<DeskRule>, answer: &Answer) -> Result<(), AllocError> {
+fn say(said: &mut String, visit: &Visit<Machine>, answer: &Answer) -> Result<(), AllocError> {
     match answer {
-        Answer::Accepted => {
+        Answer::Edited(Ok(())) => {
             let done = done(visit);
             writeln!(said, "{done}")
         }
-        Answer::Refused(refusal) => say_sent(said, SentBack::Plan(*refusal)),
-        Answer::Settled(sweeps, rows) => {
+        Answer::Edited(Err(refusal)) => say_sent(said, SentBack::Plan(*refusal)),
+        Answer::Settled(Ok(table)) => {
             let windows = Windows {
-                sweeps: *sweeps,
-                rows: rows.as_slice(),
+                sweeps: table.sweeps,
+                rows: table.rows.as_slice(),
             };
             write!(said, "{windows}")
         }
-        Answer::Unsettled(fault) => say_sent(said, SentBack::Settle(*fault)),
+        Answer::Settled(Err(fault)) => say_sent(said, SentBack::Settle(*fault)),
         Answer::Listed(items) => say_items(said, items.as_slice()),
     }
 }
@@ -63,7 +58,7 @@ fn say(said: &mut String, visit: &Visit<DeskRule>, answer: &Answer) -> Result<()
 pub struct Session {
     bit_times: Vec<u8>,
     // The visits stand beside the turns and not in them, since a replay takes them in a row.
-    visits: Vec<Visit<DeskRule>>,
+    visits: Vec<Visit<Machine>>,
     /// For each line the refusal of an opening, or none where it is the next visit.
     turns: Vec<Option<Refusal>>,
 }
@@ -78,7 +73,7 @@ impl Session {
     }
 
     /// Notes a visit.
-    pub fn visit(&mut self, visit: Visit<DeskRule>) -> Result<(), AllocError> {
+    pub fn visit(&mut self, visit: Visit<Machine>) -> Result<(), AllocError> {
         self.visits.push(visit)?;
         self.turns.push(None)?;
         Ok(())
@@ -91,10 +86,8 @@ impl Session {
     }
 
     /// Replays the session, and says what each of its lines is answered.
-    pub fn tell(&self, heap: Global, said: &mut String) -> Result<(), AllocError> {
-        let Ok(done) = replay(heap, self.bit_times.as_slice(), self.visits.as_slice()) else {
-            return Err(AllocError);
-        };
+    pub fn tell(&self, heap: Global, said: &mut String) -> Result<(), Stop> {
+        let done = replay(heap, self.bit_times.as_slice(), self.visits.as_slice())?;
         writeln!(said, "opened")?;
         let mut answered = self.visits.iter().zip(done.answers.iter());
         for turn in &self.turns {

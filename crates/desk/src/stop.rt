@@ -17,6 +17,9 @@ pub enum Reason<'a> {
     Switch,
     #[error("there is no memory left")]
     Memory(#[from(alloc)] AllocError),
+    /// A plan that was checked is not replayed only for want of memory.
+    #[error("there is no memory left")]
+    Unreplayed,
 }
 
 /// The line at which a script ends, and why.
