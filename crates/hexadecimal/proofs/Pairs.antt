@@ -1,14 +1,15 @@
 -- Words read two digits at a time, texts written one byte at a time, and a text that is read back.
-use Rattle.std.proofs.Common.{◌≡◌, ℕ, ◌+◌, ◌-◌, ◌*◌, ◌/◌, ◌%◌, ◌<◌, ◌≤◌, ltb, List, [], ◌∷◌, ◌++◌, length, get_or, take, drop, Some, None, Option, sym, refl, ap, ◌∙◌, append_assoc, append-nil, arith}
-use lib.Utf8.{encode}
+use Rattle.std.proofs.Common.{◌≡◌, ℕ, Bool, true, false, ◌^◌, ◌+◌, ◌-◌, ◌*◌, ◌/◌, ◌%◌, ◌<◌, ◌≤◌, List, [], ◌∷◌, ◌++◌, length, get_or, take, drop, Some, None, Ok, Option, sym, refl, ap, ◌∙◌, append_assoc, append-nil, arith}
 use Rattle.std.specs.declared.fmt.Formatter.{Formatter}
 use Rattle.std.specs.Option.{option_map}
 use Rattle.std.specs.Char.{digit_value, digit_char}
-use Rattle.std.specs.Fmt.{HasWritten}
+use Rattle.std.specs.Bool.{then_some, ◌==◌}
+use Rattle.std.specs.Fmt.{HasWritten, DisplaysOnOk, digits, digits_output, format_spec, styled_digits_output}
+use Rattle.std.proofs.lemmas.Fmt.{hex_byte}
 use Rattle.std.proofs.Output.{has_written_append, has_written_of_eq}
 use Rattle.std.proofs.lemmas.List.{take_rest, take_more}
-use Rattle.std.proofs.lemmas.Bool.{cond-true, cond_both, and_from, lt-ltb}
-use Rattle.std.proofs.lemmas.Str.{digit_value-digit_char, encode_ascii}
+use Rattle.std.proofs.lemmas.Bool.{cond-true, and_from, lt-ltb}
+use Rattle.std.proofs.lemmas.Str.{digit_value-digit_char}
 use Rattle.hexadecimal.specs.Digits.{pair_byte, ahead, unhex, hex_text, Bytes}
 
 -- what is left of a word after two digits
@@ -38,16 +39,11 @@ read_none done digits all two byte old =
     ap (λ p. option_map (λ r. done ++ r) (ahead p (unhex (rest_of digits)))) byte ∙
     ap (option_map (λ r. done ++ r)) (sym (unhex_two digits two)) ∙ old
 
--- no digit is left
-pub read_all : (done digits : List ℕ) (all : Option (List ℕ)) → length digits ≡ 0 → option_map (λ r. done ++ r) (unhex digits) ≡ all → Some done ≡ all
-read_all done [] all e old = ap (λ r. Some r) (sym (append-nil done)) ∙ old
-read_all done (d ∷ digits) all e old = absurd (omega arith)
-
--- one digit is left
-pub read_odd : (done digits : List ℕ) (all : Option (List ℕ)) → length digits ≡ 1 → option_map (λ r. done ++ r) (unhex digits) ≡ all → None ≡ all
-read_odd done [] all e old = absurd (omega arith)
-read_odd done (d ∷ []) all e old = old
-read_odd done (d ∷ e ∷ digits) all h old = absurd (omega arith)
+-- no two digits are left: the word is read if none is
+pub read_end : {V : Type 0} (items : V → List ℕ) (v : V) (digits : List ℕ) (b : Bool) (all : Option (List ℕ)) → b ≡ (length digits == 0) → length digits < 2 → option_map (λ r. items v ++ r) (unhex digits) ≡ all → option_map items (then_some b v) ≡ all
+read_end items v [] b all e few old = rw e (ap (λ r. Some r) (sym (append-nil (items v))) ∙ old)
+read_end items v (d ∷ []) b all e few old = rw e old
+read_end items v (d ∷ e' ∷ digits) b all e few old = absurd (omega arith)
 
 pair_back : (b : ℕ) → b < 256 → pair_byte (digit_char (b / 16)) (digit_char (b % 16)) ≡ Some b
 pair_back b small =
@@ -67,23 +63,15 @@ hex_append : (xs ys : List ℕ) → hex_text (xs ++ ys) ≡ hex_text xs ++ hex_t
 hex_append [] ys = refl
 hex_append (x ∷ xs) ys = ap (λ t. digit_char (x / 16) ∷ digit_char (x % 16) ∷ t) (hex_append xs ys)
 
-digit_small : (n : ℕ) → n < 16 → digit_char n < 128
-digit_small n lt = cond_both (ltb n 10) (48 + n) (87 + n) (λ x. x < 128) (λ _. omega arith) (λ _. omega arith)
+-- how a byte is shown
+styled_byte : (d : _) (s : _) (b : ℕ) → b < 256 → digits_output d ≡ Some (digits 16 false b) → s ≡ format_spec 32 0 4 2 (2 ^ 64 - 1) → styled_digits_output d s ≡ Some (digit_char (b / 16) ∷ digit_char (b % 16) ∷ [])
+styled_byte d s b small w v = rw (v, w) (ap (λ t. Some t) (hex_byte false b small))
 
-digit_shown : (c n : ℕ) → n < 16 → c ≡ digit_char n → encode c ≡ digit_char n ∷ []
-digit_shown c n lt is = ap encode is ∙ encode_ascii (digit_char n) (digit_small n lt)
-
-hex_more : (bytes : List ℕ) (i high low : ℕ) → i < length bytes → get_or bytes i 0 < 256 → high ≡ digit_char (get_or bytes i 0 / 16) → low ≡ digit_char (get_or bytes i 0 % 16) → (hex_text (take i bytes) ++ encode high) ++ encode low ≡ hex_text (take (i + 1) bytes)
-hex_more bytes i high low lt small is-high is-low =
-    let b = get_or bytes i 0 in
-    let first : encode high ≡ digit_char (b / 16) ∷ [] = digit_shown high (b / 16) (omega arith) is-high in
-    let second : encode low ≡ digit_char (b % 16) ∷ [] = digit_shown low (b % 16) (omega arith) is-low in
-    append_assoc (hex_text (take i bytes)) (encode high) (encode low) ∙
-    ap (λ t. hex_text (take i bytes) ++ (t ++ encode low)) first ∙
-    ap (λ t. hex_text (take i bytes) ++ (digit_char (b / 16) ∷ t)) second ∙
-    sym (ap hex_text (take_more bytes i 0 lt) ∙ hex_append (take i bytes) (b ∷ []))
+byte_more : (bytes : List ℕ) (i : ℕ) → i < length bytes → hex_text (take i bytes) ++ (digit_char (get_or bytes i 0 / 16) ∷ digit_char (get_or bytes i 0 % 16) ∷ []) ≡ hex_text (take (i + 1) bytes)
+byte_more bytes i lt = sym (ap hex_text (take_more bytes i 0 lt) ∙ hex_append (take i bytes) (get_or bytes i 0 ∷ []))
 
 -- one byte more is written
-pub put_byte : {W : Type 0} (took : W → List ℕ → W → Type 0) (f g h k : Formatter W) (bytes : List ℕ) (i high low : ℕ) → i < length bytes → get_or bytes i 0 < 256 → high ≡ digit_char (get_or bytes i 0 / 16) → low ≡ digit_char (get_or bytes i 0 % 16) → HasWritten took f (hex_text (take i bytes)) g → HasWritten took g (encode high) h → HasWritten took h (encode low) k → HasWritten took f (hex_text (take (i + 1) bytes)) k
-put_byte took f g h k bytes i high low lt small is-high is-low old first second =
-    has_written_of_eq took f _ _ k (hex_more bytes i high low lt small is-high is-low) (has_written_append took f _ h _ k (has_written_append took f _ g _ h old first) second)
+pub put_byte : {W : Type 0} (took : W → List ℕ → W → Type 0) (f g h : Formatter W) (d : _) (s : _) (bytes : List ℕ) (i : ℕ) → i < length bytes → get_or bytes i 0 < 256 → digits_output d ≡ Some (digits 16 false (get_or bytes i 0)) → s ≡ format_spec 32 0 4 2 (2 ^ 64 - 1) → HasWritten took f (hex_text (take i bytes)) g → DisplaysOnOk took g (Ok tt) (styled_digits_output d s) h → HasWritten took f (hex_text (take (i + 1) bytes)) h
+put_byte took f g h d s bytes i lt small w v old new =
+    let wrote = rw (styled_byte d s (get_or bytes i 0) small w v) at new in
+    has_written_of_eq took f _ _ h (byte_more bytes i lt) (has_written_append took f _ g _ h old (wrote old.plain (refl {a = true})))

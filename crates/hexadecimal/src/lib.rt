@@ -1,9 +1,8 @@
 //! Bytes as hexadecimal digits: two for each byte, the high one first.
 #![tactic(auto)]
 
-ghost use Rattle.std.specs.Prelude.{◌≡◌, ℕ, ◌<◌, List, IfOk, Some, vec_items};
+ghost use Rattle.std.specs.Prelude.{◌≡◌, ℕ, List, IfOk, Some, vec_items};
 ghost use Rattle.std.specs.Option.{option_map};
-ghost use Rattle.std.specs.Char.{digit_char};
 ghost use Rattle.hexadecimal.specs.Digits.{pair_byte, unhex, hex_text, Bytes};
 
 use std::alloc::{AllocError, Global};
@@ -25,26 +24,15 @@ pub fn bytes_of(heap: Global, word: &str) -> Result<Option<Vec<u8>>, AllocError>
 {
     let mut digits = word.as_bytes();
     let mut bytes = Vec::new(heap);
+    // No chain: of one that collects into an Option no clause says that it fails where an item does.
     while let [high, low, rest @ ..] = digits {
-        match byte_of(*high, *low) {
-            Some(byte) => bytes.push(byte)?,
-            None => return Ok(None),
-        }
+        let Some(byte) = byte_of(*high, *low) else {
+            return Ok(None);
+        };
+        bytes.push(byte)?;
         digits = rest;
     }
-    Ok(if digits.is_empty() { Some(bytes) } else { None })
-}
-
-/// The digit that is written for a number below 16.
-fn digit_of(n: u8) -> char
-    requires { n < 16 }
-    ensures { result ≡ digit_char n }
-{
-    if n < 10 {
-        char::from(b'0' + n)
-    } else {
-        char::from(b'a' + (n - 10))
-    }
+    Ok(digits.is_empty().then_some(bytes))
 }
 
 /// Bytes, to be shown as lower-case digits.
@@ -55,9 +43,8 @@ impl fmt::Display for Hex<'_> {
     ghost output = { λ h. Some (hex_text h.0.now) };
 
     fn fmt<W: fmt::Write>(&self, f: &mut fmt::Formatter<W>) -> fmt::Result {
-        for byte in self.0 {
-            f.write_char(digit_of(byte / 16))?;
-            f.write_char(digit_of(byte % 16))?;
+        for &byte in self.0 {
+            write!(f, "{byte:02x}")?;
         }
         Ok(())
     }
