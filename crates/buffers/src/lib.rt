@@ -1,15 +1,15 @@
 //! A caller's buffer of bytes: what is written goes into its front, and the rest stays as it was.
 #![tactic(auto)]
 
-ghost use Rattle.std.specs.Prelude.{◌≡◌, ◌+◌, ◌≤◌, length};
+ghost use Rattle.std.specs.Prelude.{◌≡◌, ◌+◌, ◌<◌, ◌≤◌, if◌then◌else◌, length, nat_lt};
 ghost use Rattle.buffers.specs.Faults.{buffer_number};
-ghost use Rattle.buffers.specs.Fronts.{Pasted};
+ghost use Rattle.buffers.specs.Fronts.{Pasted, Written};
 
 /// Why a writer of text or of a file is sent back.
 #[derive(Clone, Copy)]
 pub enum BufferFault {
     /// The buffer is shorter than what is to be written.
-    TooShort,
+    TooShort = 23,
 }
 
 impl BufferFault {
@@ -17,9 +17,18 @@ impl BufferFault {
     pub fn number(&self) -> u8
         ensures { result ≡ buffer_number self.now }
     {
-        match self {
-            BufferFault::TooShort => 23,
-        }
+        *self as u8
+    }
+}
+
+/// Refuses a buffer of fewer bytes than are to be written.
+pub fn check_room(buffer: &[u8], size: usize) -> Result<(), BufferFault>
+    ensures { result ≡ (if nat_lt (length buffer.now) size then Err TooShort else Ok tt) }
+{
+    if buffer.len() < size {
+        Err(BufferFault::TooShort)
+    } else {
+        Ok(())
     }
 }
 
@@ -29,4 +38,13 @@ pub fn put(buffer: &mut [u8], at: usize, bytes: &[u8])
     ensures { Pasted at bytes.now buffer.old buffer.new }
 {
     buffer[at..at + bytes.len()].copy_from_slice(bytes);
+}
+
+/// Writes the bytes into the front of the buffer, and answers how many they are.
+pub fn write_front(buffer: &mut [u8], bytes: &[u8]) -> Result<usize, BufferFault>
+    ensures { Written bytes.now buffer.old buffer.new result }
+{
+    check_room(buffer, bytes.len())?;
+    put(buffer, 0, bytes);
+    Ok(bytes.len())
 }
