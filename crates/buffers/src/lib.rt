@@ -1,9 +1,11 @@
 //! A caller's buffer of bytes: what is written goes into its front, and the rest stays as it was.
 #![tactic(auto)]
 
-ghost use Rattle.std.specs.Prelude.{◌≡◌, ◌+◌, ◌<◌, ◌≤◌, if◌then◌else◌, length, nat_lt};
+ghost use Rattle.std.specs.Prelude.{◌≡◌, ◌+◌, ◌<◌, ◌≤◌, length, MatchResult};
 ghost use Rattle.buffers.specs.Faults.{buffer_number};
 ghost use Rattle.buffers.specs.Fronts.{Pasted, Written};
+
+pub mod layouts;
 
 /// Why a writer of text or of a file is sent back.
 #[derive(Clone, Copy)]
@@ -23,7 +25,7 @@ impl BufferFault {
 
 /// Refuses a buffer of fewer bytes than are to be written.
 pub fn check_room(buffer: &[u8], size: usize) -> Result<(), BufferFault>
-    ensures { result ≡ (if nat_lt (length buffer.now) size then Err TooShort else Ok tt) }
+    ensures { MatchResult result (λ _. size ≤ length buffer.now) (λ _. length buffer.now < size) }
 {
     if buffer.len() < size {
         Err(BufferFault::TooShort)
@@ -32,12 +34,15 @@ pub fn check_room(buffer: &[u8], size: usize) -> Result<(), BufferFault>
     }
 }
 
-/// Writes the bytes from a place of the buffer on.
-pub fn put(buffer: &mut [u8], at: usize, bytes: &[u8])
+/// Writes the bytes from a place of the buffer on, and answers the place behind them.
+pub fn put(buffer: &mut [u8], at: usize, bytes: &[u8]) -> usize
     requires { at + length bytes.now ≤ length buffer.old }
-    ensures { Pasted at bytes.now buffer.old buffer.new }
+    ensures place { result ≡ at + length bytes.now }
+    ensures bytes { Pasted at bytes.now buffer.old buffer.new }
 {
-    buffer[at..at + bytes.len()].copy_from_slice(bytes);
+    let end = at + bytes.len();
+    buffer[at..end].copy_from_slice(bytes);
+    end
 }
 
 /// Writes the bytes into the front of the buffer, and answers how many they are.
@@ -45,6 +50,5 @@ pub fn write_front(buffer: &mut [u8], bytes: &[u8]) -> Result<usize, BufferFault
     ensures { Written bytes.now buffer.old buffer.new result }
 {
     check_room(buffer, bytes.len())?;
-    put(buffer, 0, bytes);
-    Ok(bytes.len())
+    Ok(put(buffer, 0, bytes))
 }
