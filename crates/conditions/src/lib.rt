@@ -1,16 +1,15 @@
 // The conditions on which a call is refused, looked at one after the other.
 #![tactic(auto)]
 
-ghost use Rattle.std.specs.Prelude.{◌≡◌};
+ghost use Rattle.std.specs.Prelude.{◌≡◌, if◌then◌else◌};
 ghost use Rattle.items.specs.Refusals.{as_result};
 ghost use Rattle.items.specs.Conditions.{outside, some_above, bit_time_of, wrong_kind, work_outside, bad_predecessor, bad_timing, first_met, open_refusal, place_refusal, withdraw_refusal, retime_checks};
-ghost use Rattle.conditions.specs.Verdicts.{verdict};
 
 use items::{Item, Refusal, Work, lists};
 
 /// The refusal where the condition is met.
 fn refuse_if(met: bool, refusal: Refusal) -> Result<(), Refusal>
-    ensures { result ≡ verdict met refusal }
+    ensures { result ≡ (if met then Err refusal else Ok tt) }
 {
     if met { Err(refusal) } else { Ok(()) }
 }
@@ -19,19 +18,14 @@ fn refuse_if(met: bool, refusal: Refusal) -> Result<(), Refusal>
 fn outside(low: usize, high: usize, n: usize) -> bool
     ensures { result ≡ outside low high n }
 {
-    n < low || high < n
+    !(low..=high).contains(&n)
 }
 
 /// Whether some bit time is above the limit.
 fn some_above(limit: u8, bit_times: &[u8]) -> bool
     ensures { result ≡ some_above limit bit_times.now }
 {
-    for bit_time in bit_times {
-        if limit < *bit_time {
-            return true;
-        }
-    }
-    false
+    bit_times.iter().any(|bit_time| limit < *bit_time)
 }
 
 /// The bit time of a resource, counted from 1.
@@ -39,11 +33,7 @@ pub fn bit_time(bit_times: &[u8], resource: u16) -> u8
     ensures { result ≡ bit_time_of bit_times.now resource }
 {
     let place = resource.saturating_sub(1) as usize;
-    if place < bit_times.len() {
-        bit_times[place]
-    } else {
-        0
-    }
+    bit_times.get(place).copied().unwrap_or(0)
 }
 
 /// Whether a task is for a bus, or a frame for a processor.
@@ -79,7 +69,7 @@ fn bad_timing(item: &Item) -> bool
     ensures { result ≡ bad_timing item.now }
 {
     if item.predecessor == 0 {
-        item.period < 1 || item.period > 10_000_000 || item.delay > 10_000_000
+        !(1..=10_000_000).contains(&item.period) || item.delay > 10_000_000
     } else {
         item.period != 0 || item.delay != 0
     }

@@ -4,6 +4,6 @@
 pub mod again;
 mod file;
 pub mod read;
-mod sizes;
+mod record;
 mod words;
 pub mod write;

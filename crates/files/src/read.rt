@@ -1,30 +1,22 @@
 //! Reading a plan from its file.
 ghost use Rattle.std.specs.Prelude.{◌≡◌, ℕ, ◌<◌, false, take, MatchResult};
 ghost use Rattle.plan.specs.Views.{view};
-ghost use Rattle.layout.specs.Reading.{items_in, bits_of, items_of, bad_record, Admitted, IsSentBack, ReadsAs, NoFile};
+ghost use Rattle.layout.specs.Reading.{bits_of, items_of, bad_record, Admitted, IsSentBack, ReadsAs, NoFile};
 
 use crate::file::PlanFile;
-use crate::sizes::sizes_of;
+use crate::record::ItemRecord;
 use layout::FileFault;
 use plan::Plan;
 
-/// Takes the record at a place as the next item of the plan.
-fn admit(plan: &mut Plan, file: &PlanFile, place: usize) -> Result<(), FileFault>
-    requires within { place < items_in file.now.bytes.now }
-    requires bits { (view plan.old).bits ≡ bits_of file.now.bytes.now }
-    requires items { (view plan.old).items ≡ take place (items_of file.now.bytes.now) }
-    requires good { (j : ℕ) → j < place → bad_record file.now.bytes.now j ≡ false }
-    ensures { Admitted file.now.bytes.now place (view plan.new) result }
+/// Takes the record as the next item of the plan.
+fn admit(plan: &mut Plan, next: ItemRecord) -> Result<(), FileFault>
+    requires bits { (view plan.old).bits ≡ bits_of next.file.bytes.now }
+    requires items { (view plan.old).items ≡ take next.place (items_of next.file.bytes.now) }
+    requires good { (j : ℕ) → j < next.place → bad_record next.file.bytes.now j ≡ false }
+    ensures { Admitted next.entry.file.bytes.now next.entry.place (view plan.new) result }
 {
-    let bad = Err(FileFault::Record(place as u16));
-    if file.descends(place) {
-        return bad;
-    }
-    if plan.place(file.item(place)).is_err() {
-        return bad;
-    }
-    if file.has_spare(place) {
-        return bad;
+    if next.descends() || plan.place(next.item()).is_err() || next.has_spare() {
+        return Err(FileFault::Record(next.place as u16));
     }
     Ok(())
 }
@@ -33,13 +25,12 @@ fn admit(plan: &mut Plan, file: &PlanFile, place: usize) -> Result<(), FileFault
 pub fn read(bytes: &[u8]) -> Result<Plan, FileFault>
     ensures { MatchResult result (λ p. ReadsAs bytes.now (view p)) (λ fault. IsSentBack bytes.now fault × NoFile bytes.now) }
 {
-    let sizes = sizes_of(bytes)?;
-    let file = PlanFile::over(bytes, sizes);
+    let file = PlanFile::over(bytes)?;
     let Ok(mut plan) = Plan::open(file.bit_times()) else {
         return Err(FileFault::BitTime);
     };
     for place in 0..file.count() {
-        admit(&mut plan, &file, place)?;
+        admit(&mut plan, file.record(place))?;
     }
     plan.forget();
     Ok(plan)

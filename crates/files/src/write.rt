@@ -1,13 +1,12 @@
 //! Writing a plan's file.
-ghost use Rattle.std.specs.Prelude.{◌≡◌, ℕ, ◌+◌, ◌*◌, ◌<◌, ◌≤◌, ◌++◌, length};
-ghost use Rattle.std.specs.List.{flat_map};
-ghost use Rattle.buffers.specs.Fronts.{Pasted, Written};
-ghost use Rattle.items.specs.Items.{item_at};
+ghost use Rattle.std.specs.Prelude.{◌≡◌, ◌<◌, ◌++◌, length};
+ghost use Rattle.buffers.specs.Fronts.{Written};
 ghost use Rattle.plan.specs.Views.{view};
 ghost use Rattle.layout.specs.Bytes.{laid};
 ghost use Rattle.layout.specs.Format.{first_word, second_word, first_record, second_record, file_of};
 
-use buffers::{BufferFault, put};
+use buffers::layouts::{Layout, put_each};
+use buffers::{BufferFault, check_room, put};
 use items::{Item, Work};
 use plan::Plan;
 
@@ -23,12 +22,11 @@ fn words_of(work: Work) -> (u32, u32)
 
 /// An item's record in the first array.
 fn first_record(item: &Item) -> [u8; 8]
-    requires { item.now.priority < 65536 }
     ensures { result ≡ first_record item.now }
 {
     let [a, b] = item.number.to_le_bytes();
     let [c, d] = item.resource.to_le_bytes();
-    let [e, f] = (item.priority as u16).to_le_bytes();
+    let [e, f, _, _] = item.priority.to_le_bytes();
     let [g, h] = item.predecessor.to_le_bytes();
     [a, b, c, d, e, f, g, h]
 }
@@ -45,35 +43,35 @@ fn second_record(item: &Item) -> [u8; 16]
     [a, b, c, d, e, f, g, h, i, j, k, l, m, n, o, p]
 }
 
+/// The layout of an item in the first array.
+struct FirstRecord;
+
+impl Layout<Item> for FirstRecord {
+    ghost bytes = { first_record };
+
+    fn put(buffer: &mut [u8], at: usize, item: &Item) -> usize {
+        put(buffer, at, &first_record(item))
+    }
+}
+
+/// And in the second.
+struct SecondRecord;
+
+impl Layout<Item> for SecondRecord {
+    ghost bytes = { second_record };
+
+    fn put(buffer: &mut [u8], at: usize, item: &Item) -> usize {
+        put(buffer, at, &second_record(item))
+    }
+}
+
 /// The two sizes.
 fn sizes(resources: usize, items: usize) -> [u8; 4]
-    requires { (resources < 65536) × (items < 65536) }
     ensures { result ≡ laid 2 resources ++ laid 2 items }
 {
-    let [a, b] = (resources as u16).to_le_bytes();
-    let [c, d] = (items as u16).to_le_bytes();
+    let [a, b, ..] = resources.to_le_bytes();
+    let [c, d, ..] = items.to_le_bytes();
     [a, b, c, d]
-}
-
-/// Writes the first array from a place on.
-fn put_firsts(buffer: &mut [u8], at: usize, items: &[Item])
-    requires room { at + 8 * length items.now ≤ length buffer.old }
-    requires short { (k : ℕ) → k < length items.now → (item_at items.now k).priority < 65536 }
-    ensures { Pasted at (flat_map first_record items.now) buffer.old buffer.new }
-{
-    for (k, item) in items.iter().enumerate() {
-        put(buffer, at + 8 * k, &first_record(item));
-    }
-}
-
-/// Writes the second array from a place on.
-fn put_seconds(buffer: &mut [u8], at: usize, items: &[Item])
-    requires { at + 16 * length items.now ≤ length buffer.old }
-    ensures { Pasted at (flat_map second_record items.now) buffer.old buffer.new }
-{
-    for (k, item) in items.iter().enumerate() {
-        put(buffer, at + 16 * k, &second_record(item));
-    }
 }
 
 /// How many bytes a plan's file has.
@@ -88,16 +86,11 @@ pub fn size_of(plan: &Plan) -> usize
 pub fn write(plan: &Plan, buffer: &mut [u8]) -> Result<usize, BufferFault>
     ensures { Written (file_of (view plan.now).bits (view plan.now).items) buffer.old buffer.new result }
 {
-    let size = size_of(plan);
-    if buffer.len() < size {
-        return Err(BufferFault::TooShort);
-    }
+    check_room(buffer, size_of(plan))?;
     let bits = plan.bit_times();
     let items = plan.items();
-    let firsts = 4 + bits.len();
-    put(buffer, 0, &sizes(bits.len(), items.len()));
-    put(buffer, 4, bits);
-    put_firsts(buffer, firsts, items);
-    put_seconds(buffer, firsts + 8 * items.len(), items);
-    Ok(size)
+    let mut end = put(buffer, 0, &sizes(bits.len(), items.len()));
+    end = put(buffer, end, bits);
+    end = put_each::<Item, FirstRecord>(buffer, end, items);
+    Ok(put_each::<Item, SecondRecord>(buffer, end, items))
 }

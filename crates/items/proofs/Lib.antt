@@ -8,6 +8,5 @@ pub mod Retimed
 pub mod Undone
 pub mod Kept
 pub mod Tracking
-pub mod Searches
 pub mod Places
 pub mod Rebuilt

@@ -1,5 +1,6 @@
 -- The conditions on which an edit is refused, in the order in which they are looked at.
-use Rattle.std.specs.Prelude.{ℕ, ◌-◌, Bool, false, cond, not, ◌&&◌, ◌||◌, List, [], ◌∷◌, length, Some, None, Option, ◌==◌, nat_le, nat_lt, slice_index}
+use Rattle.std.specs.Prelude.{ℕ, ◌-◌, Bool, cond, not, ◌&&◌, ◌||◌, List, [], ◌∷◌, length, Some, None, Option, ◌==◌, nat_le, nat_lt, slice_index}
+use Rattle.std.specs.List.{list_any}
 use Rattle.items.specs.declared.Item.{Item}
 use Rattle.items.specs.declared.Work.{Work}
 use Rattle.items.specs.declared.Work.TheVariants.{Task, Frame}
@@ -27,18 +28,15 @@ outside low high n = (nat_lt n low) || (nat_lt high n)
 
 -- an item of that number stands
 abbrev pub stands : ℕ → List Item → Bool
-stands n [] = false
-stands n (x ∷ xs) = (x.number == n) || stands n xs
+stands n xs = list_any (λ x. x.number == n) xs
 
 -- an item of that resource has that priority
 abbrev pub priority_used : ℕ → ℕ → List Item → Bool
-priority_used resource priority [] = false
-priority_used resource priority (x ∷ xs) = ((x.resource == resource) && (x.priority == priority)) || priority_used resource priority xs
+priority_used resource priority xs = list_any (λ x. (x.resource == resource) && (x.priority == priority)) xs
 
 -- an item follows the one of that number
 abbrev pub has_successor : ℕ → List Item → Bool
-has_successor n [] = false
-has_successor n (x ∷ xs) = (x.predecessor == n) || has_successor n xs
+has_successor n xs = list_any (λ x. x.predecessor == n) xs
 
 -- the bit time of a resource, counted from 1
 abbrev pub bit_time_of : List ℕ → ℕ → ℕ
@@ -64,8 +62,7 @@ bad_timing x = cond (x.predecessor == 0) ((outside 1 10000000 x.period) || (nat_
 
 -- some number of a list is above a limit
 abbrev pub some_above : ℕ → List ℕ → Bool
-some_above limit [] = false
-some_above limit (n ∷ ns) = (nat_lt limit n) || some_above limit ns
+some_above limit ns = list_any (nat_lt limit) ns
 
 -- the conditions on opening a plan
 abbrev pub open_checks : List ℕ → List Check

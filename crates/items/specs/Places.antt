@@ -1,5 +1,6 @@
 -- Places in a list of items: where a number stands, and where an item of a number belongs.
-use Rattle.std.specs.Prelude.{◌≡◌, ℕ, suc, ◌<◌, cond, List, [], ◌∷◌, length, ◌≢◌, nat_lt}
+use Rattle.std.specs.Prelude.{◌≡◌, ℕ, ◌<◌, List, length, ◌≢◌, nat_lt}
+use Rattle.std.specs.List.{position_or_len}
 use Rattle.items.specs.declared.Item.{Item}
 use Rattle.items.specs.Items.{item_at}
 
@@ -15,5 +16,4 @@ pub record First (number : ℕ) (xs : List Item) (at : ℕ) : Type 0 where
 
 -- how many items stand before the first of a higher number
 abbrev pub rank : ℕ → List Item → ℕ
-rank number [] = 0
-rank number (x ∷ xs) = cond (nat_lt number x.number) 0 (suc (rank number xs))
+rank number xs = position_or_len (λ x. nat_lt number x.number) xs

@@ -54,21 +54,21 @@ pub struct Entry {
 /// Why a call of a plan is sent back.
 #[derive(Clone, Copy)]
 pub enum Refusal {
-    ResourceCount,
-    BitTime,
-    Number,
-    NumberStands,
-    NoResource,
-    Priority,
-    PriorityUsed,
-    WrongKind,
-    WorkRange,
-    Predecessor,
-    Timing,
-    PlanFull,
-    NotStanding,
-    HasSuccessor,
-    NothingToUndo,
+    ResourceCount = 1,
+    BitTime = 2,
+    Number = 3,
+    NumberStands = 4,
+    NoResource = 5,
+    Priority = 6,
+    PriorityUsed = 7,
+    WrongKind = 8,
+    WorkRange = 9,
+    Predecessor = 10,
+    Timing = 11,
+    PlanFull = 12,
+    NotStanding = 13,
+    HasSuccessor = 14,
+    NothingToUndo = 15,
 }
 
 impl Refusal {
@@ -76,22 +76,6 @@ impl Refusal {
     pub fn number(&self) -> u8
         ensures { result ≡ number_of self.now }
     {
-        match self {
-            Refusal::ResourceCount => 1,
-            Refusal::BitTime => 2,
-            Refusal::Number => 3,
-            Refusal::NumberStands => 4,
-            Refusal::NoResource => 5,
-            Refusal::Priority => 6,
-            Refusal::PriorityUsed => 7,
-            Refusal::WrongKind => 8,
-            Refusal::WorkRange => 9,
-            Refusal::Predecessor => 10,
-            Refusal::Timing => 11,
-            Refusal::PlanFull => 12,
-            Refusal::NotStanding => 13,
-            Refusal::HasSuccessor => 14,
-            Refusal::NothingToUndo => 15,
-        }
+        *self as u8
     }
 }

@@ -9,43 +9,28 @@ use crate::Item;
 pub fn priority_used(items: &[Item], resource: u16, priority: u32) -> bool
     ensures { result ≡ priority_used resource priority items.now }
 {
-    for item in items {
-        if item.resource == resource && item.priority == priority {
-            return true;
-        }
-    }
-    false
+    items.iter().any(|item| item.resource == resource && item.priority == priority)
 }
 
 /// Whether an item follows the one of that number.
 pub fn has_successor(items: &[Item], number: u16) -> bool
     ensures { result ≡ has_successor number items.now }
 {
-    for item in items {
-        if item.predecessor == number {
-            return true;
-        }
-    }
-    false
+    items.iter().any(|item| item.predecessor == number)
 }
 
 /// The place of the item of that number.
 pub fn place_of(items: &[Item], number: u16) -> Option<usize>
     ensures { MatchOption result (stands number items.now ≡ false) (First number items.now) }
 {
-    for (at, item) in items.iter().enumerate() {
-        if item.number == number {
-            return Some(at);
-        }
-    }
-    None
+    items.iter().position(|item| item.number == number)
 }
 
 /// Whether an item of that number stands.
 pub fn stands(items: &[Item], number: u16) -> bool
     ensures { result ≡ stands number items.now }
 {
-    place_of(items, number).is_some()
+    items.iter().any(|item| item.number == number)
 }
 
 /// The place for an item of that number: before the first item of a higher one.
@@ -53,10 +38,8 @@ pub fn rank_of(items: &[Item], number: u16) -> usize
     ensures value { result ≡ rank number items.now }
     ensures bound { result ≤ length items.now }
 {
-    for (at, item) in items.iter().enumerate() {
-        if number < item.number {
-            return at;
-        }
-    }
-    items.len()
+    items
+        .iter()
+        .position(|item| number < item.number)
+        .unwrap_or(items.len())
 }

@@ -2,43 +2,31 @@
 ghost use Rattle.items.specs.Stands.{OpensValid, EditsKeepValid, VisitsKeep, VisitsFollow, FollowsLedger, Undoes32};
 
 /// A plan that opens is valid.
-pub fn opening_is_valid() -> u8
+pub fn opening_is_valid()
     ensures { OpensValid }
-{
-    0
-}
+{}
 
 /// An accepted edit leaves a valid plan valid.
-pub fn editing_stays_valid() -> u8
+pub fn editing_stays_valid()
     ensures { EditsKeepValid }
-{
-    0
-}
+{}
 
 /// Every visit leaves the items valid, and so they are with any entries of the journal taken back.
-pub fn visit_keeps() -> u8
+pub fn visit_keeps()
     ensures { VisitsKeep }
-{
-    0
-}
+{}
 
 /// A visit gets the ledger's answer and leaves what the ledger says.
-pub fn visit_follows() -> u8
+pub fn visit_follows()
     ensures { VisitsFollow }
-{
-    0
-}
+{}
 
 /// After any visits the items and the next answer are the ledger's.
-pub fn plan_follows_ledger() -> u8
+pub fn plan_follows_ledger()
     ensures { FollowsLedger }
-{
-    0
-}
+{}
 
 /// Of 33 placements 32 can be taken back, and no more.
-pub fn undoes_32() -> u8
+pub fn undoes_32()
     ensures { Undoes32 }
-{
-    0
-}
+{}

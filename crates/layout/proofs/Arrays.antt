@@ -1,10 +1,7 @@
 -- Arrays of records of one length, in a file and as they are written.
-use Rattle.std.proofs.Common.{◌≡◌, ℕ, zero, suc, ◌+◌, ◌*◌, ◌/◌, ◌%◌, ◌<◌, ◌≤◌, List, [], ◌∷◌, ◌++◌, map, length, get_or, take, sym, refl, ap, ◌∙◌, subst, add_assoc, add_comm, mul-zero, mul-one, mul-suc, mul-add, arith, length-append, length-take-le}
+use Rattle.std.proofs.Common.{◌≡◌, ℕ, zero, suc, ◌+◌, ◌*◌, ◌/◌, ◌%◌, ◌<◌, List, [], ◌∷◌, ◌++◌, map, length, get_or, sym, refl, ap, ◌∙◌, add_assoc, add_comm, mul-zero, mul-one, mul-suc, mul-add, arith, length-append}
 use native.Mathlib.Nat.{div-div-eq-div-mul}
-use Rattle.std.proofs.lemmas.List.{take_more, flat_map_more}
 use Rattle.std.specs.List.{flat_map, range_with_len}
-use Rattle.buffers.specs.Fronts.{Pasted}
-use Rattle.buffers.proofs.Fronts.{pasted_more}
 use Rattle.layout.specs.Bytes.{laid, part}
 use Rattle.layout.proofs.Bytes.{part_add, part_front, part_behind}
 
@@ -37,15 +34,6 @@ joined_parts bytes f s at from (suc many) each =
 pub joined_map : {X Y : Type 0} (f : Y → List ℕ) (g : X → Y) (xs : List X) → flat_map f (map g xs) ≡ flat_map (λ x. f (g x)) xs
 joined_map f g [] = refl
 joined_map f g (x ∷ xs) = ap (λ l. f (g x) ++ l) (joined_map f g xs)
-
--- one record more, written behind those before it
-module _ {X : Type 0} (f : X → List ℕ) (s : ℕ) (long : (x : X) → length (f x) ≡ s) where
-  pub pasted_record : (xs : List X) (d : X) (k at : ℕ) (old mid new bytes : List ℕ) → k < length xs → at ≤ length old → bytes ≡ f (get_or xs k d) → Pasted at (flat_map f (take k xs)) old mid → Pasted (at + s * k) bytes mid new → Pasted at (flat_map f (take (k + 1) xs)) old new
-  pasted_record xs d k at old mid new bytes below room is before here =
-      let one_more : flat_map f (take (k + 1) xs) ≡ flat_map f (take k xs) ++ f (get_or xs k d) = ap (flat_map f) (take_more xs k d below) ∙ sym (flat_map_more f [] (take k xs) (get_or xs k d)) in
-      let so_far : length (flat_map f (take k xs)) ≡ s * k = length_joined f s long (take k xs) ∙ ap (λ n. s * n) (length-take-le k xs (omega arith)) in
-      let end : at + s * k ≡ at + length (flat_map f (take k xs)) = ap (λ n. at + n) (sym so_far) in
-      subst (λ l. Pasted at l old new) (sym one_more) (pasted_more at (at + s * k) old mid new (flat_map f (take k xs)) (f (get_or xs k d)) room end before (subst (λ l. Pasted (at + s * k) l mid new) is here))
 
 -- a number of 32 bits by its bytes
 pub four_bytes : (r : List ℕ) (m n : ℕ) → r ≡ (n % 256 ∷ (n / 256 % 256 ∷ (n / 65536 % 256 ∷ (n / 16777216 % 256 ∷ [])))) → n ≡ m → get_or r 0 0 ∷ (get_or r 1 0 ∷ (get_or r 2 0 ∷ (get_or r 3 0 ∷ []))) ≡ laid 4 m

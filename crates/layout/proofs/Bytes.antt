@@ -1,8 +1,8 @@
 -- Numbers as bytes, and parts of a list of bytes.
-use Rattle.std.proofs.Common.{◌≡◌, ℕ, zero, suc, ◌+◌, ◌-◌, ◌*◌, ◌/◌, ◌%◌, ◌^◌, ◌<◌, ◌≤◌, List, [], ◌∷◌, ◌++◌, length, get_or, take, drop, sym, refl, ap, ◌∙◌, subst, mod-eq_of_lt, mul_comm, div-lt_iff_lt-mul, zero-add, arith, lit<, length-drop, length-take-le, get_or-drop, get_or-take, take-take, drop-drop, take_at, take-add}
+use Rattle.std.proofs.Common.{◌≡◌, ℕ, zero, suc, ◌+◌, ◌-◌, ◌*◌, ◌/◌, ◌%◌, ◌^◌, ◌<◌, ◌≤◌, List, [], ◌∷◌, ◌++◌, length, take, drop, sym, refl, ap, ◌∙◌, subst, mod-eq_of_lt, mul_comm, div-lt_iff_lt-mul, zero-add, arith, lit<, length-drop, length-take-le, get_or-drop, get_or-take, take-take, drop-drop, take_at, take-add}
 use native.Mathlib.Nat.{pow-succ', mod-add-div, add-mul-mod_self_left, add-mul-div_left, div-eq_of_lt}
 use lib.Seq.{drop-append-add, drop-append-le, take-append-le}
-use Rattle.std.proofs.lemmas.List.{drop-take, drop_more}
+use Rattle.std.proofs.lemmas.List.{drop-take}
 use Rattle.layout.specs.Bytes.{laid, value, part, word}
 use Rattle.layout.specs.Stands.{Bytes}
 
@@ -69,24 +69,3 @@ part_within at m xs ys within =
     let room : at ≤ length xs = omega arith in
     let enough : m ≤ length (drop at xs) = omega (arith, length-drop at xs) in
     ap (take m) (drop-append-le at xs ys room) ∙ take-append-le m (drop at xs) ys enough
-
--- a word byte by byte
-module _ (bytes : List ℕ) where
-  word_more : (width at : ℕ) → at < length bytes → word (suc width) bytes at ≡ get_or bytes at 0 + 256 * word width bytes (at + 1)
-  word_more width at within = ap (λ l. value (take (suc width) l)) (drop_more bytes at 0 within)
-
-  pub word_2 : (at : ℕ) → at + 2 ≤ length bytes → word 2 bytes at ≡ get_or bytes at 0 + 256 * get_or bytes (at + 1) 0
-  word_2 at within =
-      let first = word_more 1 at (omega arith) in
-      let second = word_more 0 (at + 1) (omega arith) in
-      omega arith
-
-  pub word_4 : (at : ℕ) → at + 4 ≤ length bytes → word 4 bytes at ≡ get_or bytes at 0 + 256 * get_or bytes (at + 1) 0 + 65536 * get_or bytes (at + 2) 0 + 16777216 * get_or bytes (at + 3) 0
-  word_4 at within =
-      let there : at + 1 + 1 ≡ at + 2 = omega arith in
-      let further : at + 2 + 1 ≡ at + 3 = omega arith in
-      let first = word_more 3 at (omega arith) in
-      let second : word 3 bytes (at + 1) ≡ get_or bytes (at + 1) 0 + 256 * word 2 bytes (at + 2) = word_more 2 (at + 1) (omega arith) ∙ ap (λ m. get_or bytes (at + 1) 0 + 256 * word 2 bytes m) there in
-      let third : word 2 bytes (at + 2) ≡ get_or bytes (at + 2) 0 + 256 * word 1 bytes (at + 3) = word_more 1 (at + 2) (omega arith) ∙ ap (λ m. get_or bytes (at + 2) 0 + 256 * word 1 bytes m) further in
-      let fourth = word_more 0 (at + 3) (omega arith) in
-      omega arith

@@ -33,8 +33,6 @@ impl FileFault {
 }
 
 /// A plan and its file determine each other, and a list of bytes is a plan's file exactly if nothing is wrong in it.
-pub fn files_stand() -> u8
+pub fn files_stand()
     ensures { FilesStand }
-{
-    0
-}
+{}

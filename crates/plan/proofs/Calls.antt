@@ -1,11 +1,11 @@
 -- What each call leaves of a plan, from what it leaves of the plan's parts.
-use Rattle.std.proofs.Common.{◌≡◌, ℕ, ◌<◌, ◌≤◌, List, ◌∷◌, length, take, set, Some, None, Option, Result, sym, ap, ◌∙◌, subst, arith, length-take-le, get_or-take}
-use lib.Seq.{take-set-lt}
+use Rattle.std.proofs.Common.{◌≡◌, ℕ, ◌<◌, ◌≤◌, List, ◌∷◌, length, set, Some, None, Option, Result, sym, ap, ◌∙◌, subst, arith, get_or}
+use Rattle.std.proofs.lemmas.List.{get_or_default}
 use Rattle.items.specs.declared.Entry.{Entry}
 use Rattle.items.specs.declared.Item.{Item}
 use Rattle.items.specs.declared.Refusal.{Refusal}
 use Rattle.items.specs.declared.Work.{Work}
-use Rattle.items.specs.Items.{no_item, item_at, item_of, with_item, without_item, reworked, with_work}
+use Rattle.items.specs.Items.{no_item, item_at, item_of, with_item, without_item, reworked}
 use Rattle.items.specs.Refusals.{as_result}
 use Rattle.items.specs.Conditions.{place_refusal, withdraw_refusal, retime_checks, retime_of, retime_refusal, first_met}
 use Rattle.items.specs.Places.{First}
@@ -28,17 +28,10 @@ pub told : (s : State) (e : Edit) (bits : List ℕ) (xs : List Item) {r : Result
 told s e bits xs is-bits is-items is =
     is ∙ ap as_result (ap (λ (b : List ℕ). edit_refusal b xs e) is-bits ∙ ap (λ (ys : List Item). edit_refusal s.bits ys e) is-items)
 
--- as many items as the count says
-pub counted : (t : Table) → t.count ≤ 256 → length t.items ≡ 256 → length (items_in t) ≡ t.count
-counted t within whole = length-take-le t.count t.items (omega arith)
-
 module _ (p : Plan) where
   module _ (x : Item) (accepted : place_refusal (view p).bits (view p).items x ≡ None) where
-    pub place_room : p.inner.count < 256
-    place_room =
-        let room = (placeable (view p).bits (view p).items x accepted).room in
-        let long = counted p.inner p.items_within p.items_whole in
-        omega arith
+    pub place_room : length (items_in p.inner) < 256
+    place_room = (placeable (view p).bits (view p).items x accepted).room
 
     pub placed_state : (t : Table) (j : Journal) → items_in t ≡ with_item x (items_in p.inner) → entries_in j ≡ noted (record { number = x.number; before = None }) (entries_in p.journal) → state_of p.resources t j ≡ visited (view p) (edit (placed x))
     placed_state t j items journal =
@@ -50,42 +43,36 @@ module _ (p : Plan) where
   withdrawn_state n accepted before t j is items journal =
       state_edited (view p) (withdrawn n) (items_in t) (entries_in j) accepted items (journal ∙ ap (λ (o : Option Item). noted (record { number = n; before = o }) (entries_in p.journal)) is)
 
-  module _ (n : ℕ) (w : Work) (at : ℕ) (first : First n (items_in p.inner) at) where
-    below : at < p.inner.count
-    below =
-        let long = counted p.inner p.items_within p.items_whole in
-        omega (arith, first.within)
+  -- the item that is read at the first place of the number, from a list that is the plan's
+  module _ (n : ℕ) (w : Work) (at : ℕ) (read : List Item) (own : read ≡ items_in p.inner) (here : First n read at) (d : Item) where
+    first : First n (items_in p.inner) at
+    first = subst (λ (xs : List Item). First n xs at) own here
 
-    own : item_at (items_in p.inner) at ≡ item_at p.inner.items at
-    own = get_or-take p.inner.count p.inner.items at no_item below
+    found : item_of n (items_in p.inner) ≡ Some (get_or read at d)
+    found =
+        record_at n (items_in p.inner) at first
+        ∙ ap Some (get_or_default (items_in p.inner) at no_item d first.within ∙ ap (λ (xs : List Item). get_or xs at d) (sym own))
 
-    found : item_of n (items_in p.inner) ≡ Some (item_at p.inner.items at)
-    found = record_at n (items_in p.inner) at first ∙ ap Some own
-
-    -- the answer for the item that stands there is the plan's
-    pub retime_told : (bits : List ℕ) {r : Result Unit Refusal} → bits ≡ (view p).bits → r ≡ as_result (first_met (retime_checks bits (item_at p.inner.items at) w)) → r ≡ as_result (retime_refusal (view p).bits (view p).items n w)
+    -- the answer for it is the plan's
+    pub retime_told : (bits : List ℕ) {r : Result Unit Refusal} → bits ≡ (view p).bits → r ≡ as_result (first_met (retime_checks bits (get_or read at d) w)) → r ≡ as_result (retime_refusal (view p).bits (view p).items n w)
     retime_told bits is-bits is =
-        is ∙ ap as_result (ap (λ (b : List ℕ). first_met (retime_checks b (item_at p.inner.items at) w)) is-bits ∙ ap (λ (o : Option Item). retime_of (view p).bits o w) (sym found))
+        is ∙ ap as_result (ap (λ (b : List ℕ). first_met (retime_checks b (get_or read at d) w)) is-bits ∙ ap (λ (o : Option Item). retime_of (view p).bits o w) (sym found))
 
-    pub retimed_state : retime_refusal (view p).bits (view p).items n w ≡ None → (x : Item) (j : Journal) → x ≡ reworked w (item_at p.inner.items at) → entries_in j ≡ noted (record { number = n; before = Some (item_at p.inner.items at) }) (entries_in p.journal) → state_of p.resources (record { items = set p.inner.items at x; count = p.inner.count }) j ≡ visited (view p) (edit (retimed n w))
-    retimed_state accepted x j is journal =
-        let xs = items_in p.inner in
-        let front : take p.inner.count (set p.inner.items at x) ≡ set xs at x = take-set-lt p.inner.count p.inner.items at x below in
-        let same : x ≡ reworked w (item_at xs at) = is ∙ ap (reworked w) (sym own) in
-        let items : take p.inner.count (set p.inner.items at x) ≡ with_work n w xs = front ∙ (ap (set xs at) same ∙ work_at n w xs at first) in
-        state_edited (view p) (retimed n w) (take p.inner.count (set p.inner.items at x)) (entries_in j) accepted items (journal ∙ ap (λ (o : Option Item). noted (record { number = n; before = o }) (entries_in p.journal)) (sym found))
+    pub retimed_state : retime_refusal (view p).bits (view p).items n w ≡ None → (t : Table) (j : Journal) → items_in t ≡ set (items_in p.inner) at (reworked w (item_at (items_in p.inner) at)) → entries_in j ≡ noted (record { number = n; before = Some (get_or read at d) }) (entries_in p.journal) → state_of p.resources t j ≡ visited (view p) (edit (retimed n w))
+    retimed_state accepted t j items journal =
+        state_edited (view p) (retimed n w) (items_in t) (entries_in j) accepted (items ∙ work_at n w (items_in p.inner) at first) (journal ∙ ap (λ (o : Option Item). noted (record { number = n; before = o }) (entries_in p.journal)) (sym found))
 
   module _ (e : Entry) (j : Journal) (newest : entries_in p.journal ≡ e ∷ entries_in j) where
     -- the record before has room again
-    pub undo_room : (x : Item) → e.before ≡ Some x → (t : Table) → t.count ≤ 256 → length t.items ≡ 256 → items_in t ≡ without_item e.number (items_in p.inner) → t.count < 256
-    undo_room x is t within whole items =
+    pub undo_room : (x : Item) → e.before ≡ Some x → (t : Table) → items_in t ≡ without_item e.number (items_in p.inner) → length (items_in t) < 256
+    undo_room x is t items =
         let xs = (view p).items in
         let some : 1 ≤ length (view p).journal = rw newest (omega arith) in
         let after : length (undone_newest 1 (view p).journal xs) ≤ 256 = ((plan_kept p).valid 1 some).size in
         let undo_one : length (undone_newest 1 (e ∷ entries_in j) xs) ≤ 256 = subst (λ (es : List Entry). length (undone_newest 1 es xs) ≤ 256) newest after in
         let put : length (restored e.before (without_item e.number xs)) ≤ 256 = undo_one in
         let back : length (with_item x (without_item e.number xs)) ≤ 256 = subst (λ (o : Option Item). length (restored o (without_item e.number xs)) ≤ 256) is put in
-        omega (arith, with_length x (without_item e.number xs), ap length items, counted t within whole)
+        omega (arith, with_length x (without_item e.number xs), ap length items)
 
     pub undone_state : (t : Table) → items_in t ≡ undone e (items_in p.inner) → state_of p.resources t j ≡ visited (view p) undo
     undone_state t items =

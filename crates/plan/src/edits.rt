@@ -7,8 +7,8 @@ ghost use Rattle.plan.specs.Views.{view, Opened};
 
 use crate::Plan;
 use crate::journal::Journal;
-use crate::resources::Resources;
 use crate::table::Table;
+use fronts::Front;
 use items::{Entry, Item, Refusal, Work, lists};
 
 impl Plan {
@@ -19,7 +19,7 @@ impl Plan {
     {
         conditions::check_open(bit_times)?;
         Ok(Plan {
-            resources: Resources::of(bit_times),
+            resources: Front::of(bit_times, 0),
             inner: Table::empty(),
             journal: Journal::empty(),
         })
@@ -56,12 +56,13 @@ impl Plan {
         ensures answer { result ≡ as_result (answer (view self.old) (edit (retimed number work))) }
         ensures state { view self.new ≡ visited (view self.old) (edit (retimed number work)) }
     {
-        let Some(at) = lists::place_of(self.items(), number) else {
+        let items = self.items();
+        let Some(at) = lists::place_of(items, number) else {
             return Err(Refusal::NotStanding);
         };
-        let before = self.inner.items[at];
+        let before = items[at];
         conditions::check_retime(self.bit_times(), &before, work)?;
-        self.inner.items[at].set_work(work);
+        self.inner.rework(at, work);
         self.journal.note(Entry {
             number,
             before: Some(before),

@@ -10,7 +10,7 @@ impl Plan {
     pub fn items(&self) -> &[Item]
         ensures { result.now ≡ (view self.now).items }
     {
-        self.inner.as_slice()
+        self.inner.items.as_slice()
     }
 
     /// The bit times of the resources, the first resource first.
@@ -24,6 +24,6 @@ impl Plan {
     pub fn undoable(&self) -> usize
         ensures { result ≡ length (view self.now).journal }
     {
-        self.journal.count
+        self.journal.entries.len()
     }
 }

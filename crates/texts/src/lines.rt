@@ -1,6 +1,6 @@
 //! The lines of the texts, on the stack.
-ghost use Rattle.std.specs.Prelude.{◌≡◌, ◌+◌, ◌≤◌, ◌++◌};
-ghost use Rattle.numerals.specs.Lines.{text_of};
+ghost use Rattle.std.specs.Prelude.{◌≡◌, ◌+◌, ◌≤◌, ◌++◌, length};
+ghost use Rattle.numerals.specs.Lines.{text_of, HasRoom};
 ghost use Rattle.texts.specs.Texts.{sweeps_line, row_line, detail_words, refusal_text};
 
 use crate::SentBack;
@@ -32,9 +32,9 @@ pub(crate) fn row_line(row: &WindowRow) -> Line
 
 /// Writes what is said of a refusal besides its number.
 fn add_detail(line: &mut Line, sent: SentBack)
-    requires { line.old.len ≤ 28 }
+    requires { HasRoom line.old 83 }
     ensures text { text_of line.new ≡ text_of line.old ++ detail_words sent }
-    ensures len { line.new.len ≤ line.old.len + 83 }
+    ensures len { length (text_of line.new) ≤ length (text_of line.old) + 83 }
 {
     match sent {
         SentBack::Settle(

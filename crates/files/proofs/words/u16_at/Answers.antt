@@ -1,6 +1,6 @@
-use Rattle.std.proofs.Common.{arith}
-use Rattle.layout.proofs.Bytes.{word_2}
+use Rattle.std.proofs.Common.{◌∙◌}
+use Rattle.files.proofs.Numbers.{number_word}
 use Rattle.files.proofs.words.u16_at.Goals as goal
 
 pub returns : goal.returns
-returns c = omega (arith, word_2 c.args.bytes.now c.args.at (omega arith))
+returns c = c.read_u16.ensures ∙ number_word 2 c.args.at c.args.bytes.now c.requires

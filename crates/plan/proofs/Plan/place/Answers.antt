@@ -1,5 +1,5 @@
 -- A placement leaves what the visit says, and keeps the invariant.
-use Rattle.std.proofs.Common.{◌≡◌, None, Err, ap, ◌∙◌, arith}
+use Rattle.std.proofs.Common.{◌≡◌, None, Err, ap, ◌∙◌}
 use Rattle.std.proofs.lemmas.Result.{err_from_is_err_and}
 use Rattle.items.specs.Ledger.{edit, placed}
 use Rattle.items.specs.Conditions.{place_refusal}
@@ -46,8 +46,7 @@ state c =
 pub invariant_of-self : goal.invariant_of-self
 invariant_of-self c =
     let p = c.args.self.now in
-    let room = place_room p c.args.item (accepted c) in
-    record { bits_whole = p.bits_whole; bits_within = p.bits_within; items_whole = c.put.ensures.long ∙ p.items_whole; items_within = omega arith; entries_whole = c.note.ensures.long ∙ p.entries_whole; entries_within = c.note.ensures.count; kept = kept_after (view p) _ (edit (placed c.args.item)) (plan_kept p) (state c) }
+    record { kept = kept_after (view p) _ (edit (placed c.args.item)) (plan_kept p) (state c) }
 
 pub returns : goal.returns
 returns c =

@@ -1,5 +1,5 @@
 -- A withdrawal keeps the invariant.
-use Rattle.std.proofs.Common.{◌≡◌, refl, ◌∙◌, arith}
+use Rattle.std.proofs.Common.{◌≡◌, refl}
 use Rattle.items.specs.Items.{item_of, without_item}
 use Rattle.items.specs.Journal.{noted}
 use Rattle.items.specs.Ledger.{edit, withdrawn}
@@ -19,4 +19,4 @@ invariant_of-self c =
     let items : items_in c.strike-before.new.self ≡ without_item n (items_in p.inner) = cc in
     let journal : entries_in c.note.new.self ≡ noted (record { number = n; before = c.strike-before.result }) (entries_in p.journal) = cc in
     let state = withdrawn_state p n (accepted_from _ _ is) c.strike-before.result c.strike-before.new.self c.note.new.self before items journal in
-    record { bits_whole = p.bits_whole; bits_within = p.bits_within; items_whole = c.strike-before.ensures.long ∙ p.items_whole; items_within = omega arith; entries_whole = c.note.ensures.long ∙ p.entries_whole; entries_within = c.note.ensures.count; kept = kept_after (view p) _ (edit (withdrawn n)) (plan_kept p) state }
+    record { kept = kept_after (view p) _ (edit (withdrawn n)) (plan_kept p) state }

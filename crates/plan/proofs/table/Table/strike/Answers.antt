@@ -1,5 +1,6 @@
 -- What is taken out is the item of the number, and nothing where it does not stand.
-use Rattle.std.proofs.Common.{◌≡◌, false, List, sym, refl, ◌∙◌, subst, arith, get_or-take}
+use Rattle.std.proofs.Common.{◌≡◌, false, List, sym, ap, ◌∙◌, subst, Some}
+use Rattle.std.proofs.lemmas.List.{get_or_default}
 use Rattle.items.specs.declared.Item.{Item}
 use Rattle.items.specs.Items.{no_item}
 use Rattle.items.specs.Conditions.{stands}
@@ -13,21 +14,17 @@ pub returns-in_err-at : goal.returns-in_err-at
 returns-in_err-at c =
     let n = c.args.number in
     let xs = items_in c.args.self.now in
-    let out : stands n xs ≡ false = subst (λ (ys : List Item). stands n ys ≡ false) c.as_slice.ensures.list c.in_err-at.ensures in
-    record { value = c.from_residual.ensures ∙ sym (no_record n xs out); list = sym (without_absent n xs out); count = omega arith; long = refl }
+    let out : stands n xs ≡ false = subst (λ (ys : List Item). stands n ys ≡ false) c.as_slice.ensures c.in_err-at.ensures in
+    record { value = c.from_residual.ensures ∙ sym (no_record n xs out); list = sym (without_absent n xs out) }
 
 pub returns : goal.returns
 returns c =
     let n = c.args.number in
-    let t = c.args.self.now in
+    let xs = items_in c.args.self.now in
     let at = c.in_ok-at.at in
-    let within = c.in_ok-at.ensures.within in
-    let first : First n (items_in t) at = subst (λ (ys : List Item). First n ys at) c.as_slice.ensures.list c.in_ok-at.ensures in
-    let own = get_or-take t.count t.items at no_item (omega arith) in
-    let stood = record_at n (items_in t) at first in
+    let first : First n xs at = subst (λ (ys : List Item). First n ys at) c.as_slice.ensures c.in_ok-at.ensures in
+    let stood = c.remove.ensures.value ∙ get_or_default xs at _ no_item first.within in
     record {
-      value = cc;
-      list = c.remove_at.ensures.list ∙ without_at n (items_in t) at first;
-      count = omega arith;
-      long = c.remove_at.ensures.long;
+      value = ap Some stood ∙ sym (record_at n xs at first);
+      list = c.remove.ensures.list ∙ without_at n xs at first;
     }

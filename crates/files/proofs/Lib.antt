@@ -1,0 +1,2 @@
+-- Lemmas on what is read of a file.
+pub mod Numbers

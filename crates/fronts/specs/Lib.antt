@@ -1,0 +1,2 @@
+-- What the contracts of a front cite.
+pub mod Listed
