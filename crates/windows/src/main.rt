@@ -23,17 +23,20 @@ fn run(rt: &HostRuntime) -> Result<(), ExitCode>
     ensures { IfErr result (λ status. exit_status status ≡ 1) }
 {
     let bytes = hear(rt)?;
-    match windows_of(rt.alloc(), bytes.as_slice()) {
-        Ok(Outcome::Windows(sweeps, rows)) => tell(
+    let outcome = windows_of(rt.alloc(), bytes.as_slice()).map_err(|_| fail(
+        rt,
+        "there is no memory left",
+    ))?;
+    match outcome {
+        Outcome::Windows(sweeps, rows) => tell(
             rt,
             Windows {
                 sweeps,
                 rows: rows.as_slice(),
             },
         ),
-        Ok(Outcome::Unread(fault)) => refuse(rt, SentBack::File(fault)),
-        Ok(Outcome::Unsettled(fault)) => refuse(rt, SentBack::Settle(fault)),
-        Err(_) => Err(fail(rt, "there is no memory left")),
+        Outcome::Unread(fault) => refuse(rt, SentBack::File(fault)),
+        Outcome::Unsettled(fault) => refuse(rt, SentBack::Settle(fault)),
     }
 }
 
