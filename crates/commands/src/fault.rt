@@ -31,10 +31,10 @@ impl Quantity for Field {
 
     fn most(&self) -> u32 {
         match self {
-            Field::Number | Field::Resource | Field::Predecessor => 65535,
-            Field::BitTime => 255,
+            Field::Number | Field::Resource | Field::Predecessor => u32::from(u16::MAX),
+            Field::BitTime => u32::from(u8::MAX),
             Field::Switch => 1000,
-            _ => 4294967295,
+            _ => u32::MAX,
         }
     }
 }

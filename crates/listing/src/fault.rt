@@ -61,6 +61,7 @@ pub enum Wrong<'a> {
     Memory(#[from(alloc)] AllocError),
 }
 
+// Written out: a derive's conversion says nothing of the error, which a contract names.
 impl<'a> From<NoNumber<'a, Field>> for Wrong<'a> {
     ghost from_gives = { λ word wrong. wrong ≡ Number word };
 

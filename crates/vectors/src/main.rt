@@ -28,10 +28,8 @@ fn write_outcome(outcome: &Outcome, buffer: &mut [u8]) -> Result<usize, BufferFa
 fn agrees(heap: Global, file: &[u8], expected: &[u8]) -> anyhow::Result<bool> {
     let outcome = windows_of(heap, file)?;
     let mut text = vec![in heap; 0u8; expected.len()]?;
-    Ok(match write_outcome(&outcome, text.as_mut_slice()) {
-        Ok(size) => size == expected.len() && text.as_slice() == expected,
-        Err(_) => false,
-    })
+    let written = write_outcome(&outcome, text.as_mut_slice());
+    Ok(written.ok() == Some(expected.len()) && text.as_slice() == expected)
 }
 
 /// Runs the plan file of that name.
@@ -39,11 +37,12 @@ fn run_one(rt: &HostRuntime, name: &str) -> anyhow::Result<()> {
     let heap = rt.alloc();
     let file = fs::read(rt, format!(in heap; "{name}.plan")?)?;
     let expected = fs::read(rt, format!(in heap; "{name}.expected")?)?;
-    if agrees(heap, file.as_slice(), expected.as_slice())? {
-        println!(rt; "{name} ok")?;
+    let found = if agrees(heap, file.as_slice(), expected.as_slice())? {
+        "ok"
     } else {
-        println!(rt; "{name} differs")?;
-    }
+        "differs"
+    };
+    println!(rt; "{name} {found}")?;
     Ok(())
 }
 

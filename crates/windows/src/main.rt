@@ -22,16 +22,19 @@ fn run(rt: &HostRuntime) -> Result<(), ExitCode>
     ensures { IfErr result (λ status. exit_status status ≡ 1) }
 {
     let bytes = hear(rt)?;
-    match windows_of(rt.alloc(), bytes.as_slice()) {
-        Ok(Ok(table)) => tell(
+    let outcome = windows_of(rt.alloc(), bytes.as_slice()).map_err(|_| fail(
+        rt,
+        "there is no memory left",
+    ))?;
+    match outcome {
+        Ok(table) => tell(
             rt,
             Windows {
                 sweeps: table.sweeps,
                 rows: table.rows.as_slice(),
             },
         ),
-        Ok(Err(sent)) => refuse(rt, sent),
-        Err(_) => Err(fail(rt, "there is no memory left")),
+        Err(sent) => refuse(rt, sent),
     }
 }
 
