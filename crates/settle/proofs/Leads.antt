@@ -59,5 +59,5 @@ module _ (rule : Numbers) (bits : List ℕ) (xs : List Item) (valid : Valid bits
   front_first ws room led = front_is ws (length xs) room (first_table rule bits xs) (tables.by_length rule bits xs (first_window rule bits xs)) (led_first (spans_of ws) led)
 
 -- empty windows are the blank table
-pub told_empty : (rule : Numbers) (bits : List ℕ) (xs : List Item) (ws : List Window) → spans_of ws ≡ replicate 256 nowhere → length xs ≤ 256 → (answers : List Response) → Answered rule bits xs (front (length xs) ws) answers → Answered rule bits xs (blank rule bits xs) answers
-told_empty rule bits xs ws empty few answers = subst (λ (vs : List Span). Answered rule bits xs vs answers) (front_empty ws (length xs) empty few)
+pub told_empty : (rule : Numbers) (bits : List ℕ) (xs : List Item) (ws : List Window) → front (length xs) ws ≡ blank rule bits xs → (answers : List Response) → Answered rule bits xs (front (length xs) ws) answers → Answered rule bits xs (blank rule bits xs) answers
+told_empty rule bits xs ws empty answers = subst (λ (vs : List Span). Answered rule bits xs vs answers) empty
