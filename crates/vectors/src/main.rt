@@ -5,8 +5,8 @@
 use buffers::BufferFault;
 use std::alloc::Global;
 use std::{env, fs};
-use texts::buffer::{write_refusal, write_windows};
 use texts::Windows;
+use texts::buffer::{write_refusal, write_windows};
 use timing::line::windows_of;
 use timing::outcome::Outcome;
 
