@@ -5,7 +5,7 @@ ghost use Rattle.std.specs.Prelude.{◌≡◌, if◌then◌else◌};
 ghost use Rattle.items.specs.Refusals.{as_result};
 ghost use Rattle.items.specs.Conditions.{outside, some_above, bit_time_of, wrong_kind, work_outside, bad_predecessor, bad_timing, first_met, open_refusal, place_refusal, withdraw_refusal, retime_checks};
 
-use items::{Item, Refusal, Work, lists};
+use items::{Item, MOST_ITEMS, Refusal, Work, lists};
 
 /// The refusal where the condition is met.
 fn refuse_if(met: bool, refusal: Refusal) -> Result<(), Refusal>
@@ -105,7 +105,7 @@ pub fn check_place(bit_times: &[u8], items: &[Item], item: &Item) -> Result<(), 
     refuse_if(work_outside(item.work), Refusal::WorkRange)?;
     refuse_if(bad_predecessor(item, items), Refusal::Predecessor)?;
     refuse_if(bad_timing(item), Refusal::Timing)?;
-    refuse_if(items.len() >= 256, Refusal::PlanFull)
+    refuse_if(items.len() >= MOST_ITEMS, Refusal::PlanFull)
 }
 
 /// The conditions on withdrawing an item.

@@ -9,6 +9,9 @@ ghost use Rattle.items.specs.Refusals.{number_of};
 pub mod lists;
 pub mod theorems;
 
+/// The most items of a plan.
+pub const MOST_ITEMS: usize = 256;
+
 /// What an item asks of its resource.
 #[derive(Clone, Copy)]
 pub enum Work {

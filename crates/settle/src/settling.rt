@@ -10,7 +10,7 @@ use plan::Plan;
 use service::Rule;
 
 /// The most sweeps of a budget.
-const MOST: u32 = 10_000;
+pub const MOST_SWEEPS: u32 = 10_000;
 
 /// Sweeps over the windows of a plan's items until a sweep alters nothing, within a budget of 1 to 10,000 sweeps.
 /// Writes number, release window and finish window of each item, ascending, into the front of the table, and answers the count of sweeps.
@@ -23,7 +23,7 @@ pub fn settle<R: Rule>(
 ) -> Result<u32, Fault>
     ensures { Settled (R.Rule.allows rule.now) (R.Rule.numbers rule.now) (view plan.now).bits (view plan.now).items budget table.old table.new result }
 {
-    if budget == 0 || budget > MOST {
+    if budget == 0 || budget > MOST_SWEEPS {
         return Err(Fault::Budget);
     }
     let items = plan.items();

@@ -4,17 +4,13 @@ ghost use Rattle.timing.specs.Told.{Told};
 
 use crate::outcome::Outcome;
 use files::read::read;
+use items::MOST_ITEMS;
 use rules::machine::{Machine, machine};
+use settle::settling::MOST_SWEEPS;
 use std::alloc::{AllocError, Global};
 use texts::SentBack;
 use visits::visit::answers::visit;
 use visits::visit::{Answer, Visit};
-
-/// The budget of sweeps.
-const BUDGET: u32 = 10_000;
-
-/// The rows of the table: as many as a plan can have items.
-const ROWS: usize = 256;
 
 /// The rule with a switch of 0 ticks.
 pub fn line_rule() -> Machine
@@ -34,7 +30,11 @@ pub fn windows_of(heap: Global, file: &[u8]) -> Result<Outcome, AllocError>
         Ok(plan) => plan,
         Err(fault) => return Ok(Err(SentBack::File(fault))),
     };
-    match visit(heap, &mut plan, &Visit::Settle(line_rule(), BUDGET, ROWS))? {
+    match visit(
+        heap,
+        &mut plan,
+        &Visit::Settle(line_rule(), MOST_SWEEPS, MOST_ITEMS),
+    )? {
         Answer::Settled(Ok(table)) => Ok(Ok(table)),
         Answer::Settled(Err(fault)) => Ok(Err(SentBack::Settle(fault))),
         _ => unreachable(),

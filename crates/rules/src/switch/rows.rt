@@ -4,9 +4,7 @@ ghost use Rattle.rules.specs.Switches.{longer, roomy, all_longer};
 
 use crate::rows::Rows;
 use service::Record;
-
-/// The largest demand of a row.
-const HEAVIEST: u32 = 20_000_000;
+use service::row::check::HEAVIEST;
 
 /// Whether every row has room for a switch of these ticks.
 pub(crate) fn has_room(records: &[Record], ticks: u16) -> bool

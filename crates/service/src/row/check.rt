@@ -10,7 +10,7 @@ use crate::{Record, Response};
 const LONGEST: u32 = 10_000_000;
 
 /// The largest demand of a row.
-const HEAVIEST: u32 = 20_000_000;
+pub const HEAVIEST: u32 = 20_000_000;
 
 /// The most rows that a rule works with.
 const MOST_ROWS: usize = 256;

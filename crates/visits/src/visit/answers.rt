@@ -6,14 +6,12 @@ ghost use Rattle.visits.specs.Visits.{asked};
 ghost use Rattle.visits.specs.Answers.{SettlesAs, Right};
 
 use crate::visit::{Answer, SettledTable, Visit};
+use items::MOST_ITEMS;
 use plan::Plan;
 use service::Rule;
 use settle::settling::settle;
 use settle::{Fault, WindowRow};
 use std::alloc::{AllocError, Global};
-
-/// The most items that a plan has, and so the most rows that a table needs.
-const MOST: usize = 256;
 
 /// What a settle comes to.
 fn settled<R: Rule>(
@@ -25,7 +23,7 @@ fn settled<R: Rule>(
 ) -> Result<Result<SettledTable, Fault>, AllocError>
     ensures { IfOk result (SettlesAs (R.Rule.allows rule.now) (R.Rule.numbers rule.now) (view plan.now).bits (view plan.now).items budget rows) }
 {
-    let mut table = vec![in heap; WindowRow::default(); rows.min(MOST)]?;
+    let mut table = vec![in heap; WindowRow::default(); rows.min(MOST_ITEMS)]?;
     match settle(plan, rule, budget, table.as_mut_slice()) {
         Ok(sweeps) => {
             table.truncate(plan.items().len());
