@@ -74,6 +74,7 @@ impl Desk {
 
     /// Takes every line of a text, up to the first that cannot be read.
     fn take_all<'a>(&mut self, heap: Global, text: &'a str) -> Result<(), Stop<'a>> {
+        // A function over any taker of lines, for this loop and the listing's, would be longer than both.
         for (at, asked) in text.lines().enumerate() {
             if let Err(wrong) = self.take(heap, asked) {
                 return Err(AtLine {

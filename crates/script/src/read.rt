@@ -122,6 +122,7 @@ fn open_of<'a>(heap: Global, words: &[&'a str]) -> Result<Command, Wrong<'a>>
     requires { 0 < length words.now }
     ensures { MatchResult result (Said forms.Open (texts words.now)) (Amiss forms.Open (texts words.now)) }
 {
+    // No chain: of one that collects into a Result no clause says that it fails where an item does.
     let mut bits = Vec::new(heap);
     for word in &words[1..] {
         let bit = number_of(Field::BitTime, word)?;
