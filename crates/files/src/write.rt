@@ -75,6 +75,7 @@ fn sizes(resources: usize, items: usize) -> [u8; 4]
 }
 
 /// How many bytes a plan's file has.
+#[tactic(auto, using(plan::proofs::Kept::plan_valid, layout::proofs::Laid::length_is))]
 pub fn size_of(plan: &Plan) -> usize
     ensures { result ≡ length (file_of (view plan.now).bits (view plan.now).items) }
 {

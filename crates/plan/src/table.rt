@@ -32,6 +32,7 @@ impl Table {
     }
 
     /// Puts the item into its place by number.
+    #[tactic(auto, using(items::proofs::Places::with_at_rank))]
     pub fn put(&mut self, item: Item)
         requires { length (items_in self.old) < 256 }
         ensures { items_in self.new ≡ with_item item (items_in self.old) }
