@@ -7,5 +7,4 @@ ghost use Rattle.sample.specs.Stands.{Sample};
 /// come to the end of the chain.
 pub fn sample_stands()
     ensures { Sample }
-{
-}
+{}
