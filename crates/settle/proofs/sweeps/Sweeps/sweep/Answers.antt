@@ -1,5 +1,5 @@
 -- What a sweep finds and leaves.
-use Rattle.std.proofs.Common.{refl, sym, ◌∙◌, arith}
+use Rattle.std.proofs.Common.{length, refl, sym, ◌∙◌, arith}
 use Rattle.consult.specs.Windows.{front}
 use Rattle.settle.proofs.Sweeping.{all_bounded, lowest, renewable, front_swept}
 use Rattle.settle.proofs.Moves.{made_at, made_more, still_here, narrow_next, failing_here}
