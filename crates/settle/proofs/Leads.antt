@@ -1,5 +1,5 @@
 -- The first table from the answers to empty windows.
-use Rattle.std.proofs.Common.{◌≡◌, ℕ, zero, suc, ◌+◌, ◌<◌, ◌≤◌, List, length, replicate, sym, ap, ◌∙◌, subst, ⊎_elim, not-suc-le-zero, arith}
+use Rattle.std.proofs.Common.{◌≡◌, ℕ, zero, suc, ◌+◌, ◌<◌, ◌≤◌, List, length, sym, ap, ◌∙◌, subst, ⊎_elim, not-suc-le-zero, arith}
 use Rattle.service.specs.declared.Record.{Record}
 use Rattle.service.specs.declared.Response.{Response}
 use Rattle.service.specs.Traces.{Trace}
@@ -8,7 +8,7 @@ use Rattle.service.specs.Laws.{LawfulRule}
 use Rattle.items.specs.declared.Item.{Item}
 use Rattle.items.specs.Items.{item_at}
 use Rattle.items.specs.Valid.{Valid}
-use Rattle.tables.specs.Demands.{Span, nowhere, span}
+use Rattle.tables.specs.Demands.{Span, span}
 use Rattle.tables.specs.Tables.{blank, lead, first_window, first_table}
 use Rattle.tables.proofs.Chains.{Link, head_or_link}
 use Rattle.tables.proofs.Ranges.{blank_range}
@@ -17,7 +17,7 @@ use Rattle.tables.proofs.Swept as tables
 use Rattle.consult.specs.declared.window.Window.{Window}
 use Rattle.consult.specs.Answers.{Answered, answer}
 use Rattle.consult.specs.Windows.{spans_of, front}
-use Rattle.consult.proofs.Fronts.{front_is, front_empty}
+use Rattle.consult.proofs.Fronts.{front_is}
 use Rattle.settle.specs.Passes.{lead_after, Led}
 use Rattle.settle.proofs.Followers.{by_head, by_link}
 

@@ -1,5 +1,5 @@
 -- The first table comes of the answers to empty windows.
-use Rattle.std.proofs.Common.{◌≤◌, length, arith}
+use Rattle.std.proofs.Common.{arith}
 use Rattle.settle.proofs.Leads.{least_high, front_first, told_empty}
 use Rattle.settle.proofs.Moves.{made_none}
 use Rattle.settle.proofs.Stale.{fresh_after}
