@@ -91,3 +91,7 @@ module _ (bits : List ℕ) (xs : List Item) (valid : Valid bits xs) where
       let same : l.at ≡ at = same_Some l.at at (sym (follower_link k l) ∙ some) in
       subst (Before k) same (record { earlier = l.earlier; is = l.is; period = within_link (length xs) k h l }))
       (head_or_link bits xs valid k h)
+
+  -- a link leads to a place in the front
+  pub place_low : (k at : ℕ) → k < length xs → link_of xs (item_at xs k) ≡ Some at → at < 256
+  place_low k at h some = omega (arith, (before k at h some).earlier, valid.size)

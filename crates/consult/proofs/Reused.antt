@@ -1,14 +1,11 @@
 -- Rows that stay: a resource whose jitters have not changed has the same rows, so its answers hold for the new table as well.
-use Rattle.std.proofs.Common.{◌≡◌, ℕ, suc, ◌-◌, ◌<◌, Bool, true, false, cond, eqb, List, [], ◌∷◌, length, get_or, refl, ap, ◌∙◌, ⊎_elim, arith}
-use Rattle.std.proofs.lemmas.Bool.{eqb-true, cases_Bool}
-use Rattle.service.specs.declared.Record.{Record}
-use Rattle.service.specs.declared.Response.{Response}
+use Rattle.std.proofs.Common.{◌≡◌, ℕ, suc, ◌-◌, ◌<◌, Bool, true, false, cond, eqb, List, [], ◌∷◌, length, get_or, replicate, refl, arith}
+use lib.ListN.{get_or-replicate}
+use Rattle.std.proofs.lemmas.Bool.{eqb-true}
 use Rattle.items.specs.declared.Item.{Item}
 use Rattle.items.specs.Items.{item_at}
-use Rattle.items.specs.Conditions.{bit_time_of}
-use Rattle.tables.specs.Demands.{Span, span, row_of, rows_on, place_on}
-use Rattle.service.specs.Numbers.{Numbers}
-use Rattle.consult.specs.Answers.{Renewed, Answered}
+use Rattle.items.specs.Valid.{Valid}
+use Rattle.tables.specs.Demands.{Span, span, row_of, rows_on}
 
 -- the windows of the items on a resource are as long in one table as in the other
 abbrev pub AsLong : ℕ → List Item → List Span → List Span → Type 0
@@ -25,3 +22,7 @@ same_rows bits all r (x ∷ xs) (w ∷ ws) (v ∷ vs) sw sv same = go (eqb x.res
         let jitter : w.to - w.from ≡ v.to - v.from = same 0 (omega arith) (eqb-true x.resource r e) in
         rw (jitter, rest)
     go false e rest = rest
+
+-- every item's resource is among sixteen marks
+pub all_marked : (bits : List ℕ) (xs : List Item) → Valid bits xs → (k : ℕ) → k < length xs → get_or (replicate 16 true) ((item_at xs k).resource - 1) false ≡ true
+all_marked bits xs valid k h = let v = valid.each k h in get_or-replicate 16 ((item_at xs k).resource - 1) true false (omega (arith, v.resource_low, v.resource_high, valid.resources_high))

@@ -64,6 +64,7 @@ fn link_at(items: &[Item], at: usize) -> Option<usize>
 }
 
 impl<'a, R: Rule> Network<'a, R> {
+    #[tactic(auto, using(crate::proofs::Links::place_low))]
     /// Lays down each item's link and row. A predecessor stands lower, so its row, with the period of both, is there already.
     pub fn new(rule: &'a R, bits: &'a [u8], items: &'a [Item]) -> Self
         requires { Valid bits.now items.now }

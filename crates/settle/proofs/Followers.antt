@@ -11,7 +11,7 @@ use Rattle.tables.proofs.Chains.{Link, head_or_link}
 use Rattle.consult.specs.declared.window.Window.{Window}
 use Rattle.consult.specs.Windows.{span_of, spans_of}
 use Rattle.consult.specs.Chains.{link, Linked}
-use Rattle.consult.proofs.Links.{head_link, follower_link, before}
+use Rattle.consult.proofs.Links.{head_link, follower_link, place_low}
 use Rattle.consult.specs.Answers.{answer}
 use Rattle.settle.specs.Passes.{Narrow, Agree, head_window, lead_after, window_from, window_by}
 
@@ -65,7 +65,7 @@ module _ (bits : List ℕ) (xs : List Item) (valid : Valid bits xs) (answers : L
 
 -- a link leads to a place in the front
 pub link_low : (bits : List ℕ) (xs : List Item) → Valid bits xs → (ls : List (Option ℕ)) → Linked xs ls → (k : ℕ) → k < length xs → (j : ℕ) → link ls k ≡ Some j → j < 256
-link_low bits xs valid ls linked k h j is = let b = before bits xs valid k j h (sym (linked k h) ∙ is) in omega (arith, b.earlier, valid.size)
+link_low bits xs valid ls linked k h j is = place_low bits xs valid k j h (sym (linked k h) ∙ is)
 
 -- what a window in range asks of that of its predecessor
 pub narrow_from : (f : Span → Response → Span) (xs : List Item) (ws : List Span) (answers : List Response) (ls : List (Option ℕ)) → Linked xs ls → (k : ℕ) → k < length xs → Narrow (window_by f xs ws answers k)

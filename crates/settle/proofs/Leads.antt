@@ -1,5 +1,5 @@
 -- The first table from the answers to empty windows.
-use Rattle.std.proofs.Common.{◌≡◌, ℕ, zero, suc, ◌+◌, ◌<◌, ◌≤◌, List, length, replicate, sym, ap, ◌∙◌, subst, ⊎_elim, not-suc-le-zero, arith}
+use Rattle.std.proofs.Common.{◌≡◌, ℕ, zero, suc, ◌+◌, ◌<◌, ◌≤◌, List, length, sym, ap, ◌∙◌, subst, ⊎_elim, not-suc-le-zero, arith}
 use Rattle.service.specs.declared.Record.{Record}
 use Rattle.service.specs.declared.Response.{Response}
 use Rattle.service.specs.Traces.{Trace}
@@ -8,7 +8,7 @@ use Rattle.service.specs.Laws.{LawfulRule}
 use Rattle.items.specs.declared.Item.{Item}
 use Rattle.items.specs.Items.{item_at}
 use Rattle.items.specs.Valid.{Valid}
-use Rattle.tables.specs.Demands.{Span, nowhere, span}
+use Rattle.tables.specs.Demands.{Span, span}
 use Rattle.tables.specs.Tables.{blank, lead, first_window, first_table}
 use Rattle.tables.proofs.Chains.{Link, head_or_link}
 use Rattle.tables.proofs.Ranges.{blank_range}
@@ -17,7 +17,7 @@ use Rattle.tables.proofs.Swept as tables
 use Rattle.consult.specs.declared.window.Window.{Window}
 use Rattle.consult.specs.Answers.{Answered, answer}
 use Rattle.consult.specs.Windows.{spans_of, front}
-use Rattle.consult.proofs.Fronts.{front_is, front_empty}
+use Rattle.consult.proofs.Fronts.{front_is}
 use Rattle.settle.specs.Passes.{lead_after, Led}
 use Rattle.settle.proofs.Followers.{by_head, by_link}
 
@@ -59,5 +59,5 @@ module _ (rule : Numbers) (bits : List ℕ) (xs : List Item) (valid : Valid bits
   front_first ws room led = front_is ws (length xs) room (first_table rule bits xs) (tables.by_length rule bits xs (first_window rule bits xs)) (led_first (spans_of ws) led)
 
 -- empty windows are the blank table
-pub told_empty : (rule : Numbers) (bits : List ℕ) (xs : List Item) (ws : List Window) → spans_of ws ≡ replicate 256 nowhere → length xs ≤ 256 → (answers : List Response) → Answered rule bits xs (front (length xs) ws) answers → Answered rule bits xs (blank rule bits xs) answers
-told_empty rule bits xs ws empty few answers = subst (λ (vs : List Span). Answered rule bits xs vs answers) (front_empty ws (length xs) empty few)
+pub told_empty : (rule : Numbers) (bits : List ℕ) (xs : List Item) (ws : List Window) → front (length xs) ws ≡ blank rule bits xs → (answers : List Response) → Answered rule bits xs (front (length xs) ws) answers → Answered rule bits xs (blank rule bits xs) answers
+told_empty rule bits xs ws empty answers = subst (λ (vs : List Span). Answered rule bits xs vs answers) empty

@@ -1,5 +1,5 @@
 -- The answers that still hold for another table.
-use Rattle.std.proofs.Common.{◌≡◌, ℕ, ◌+◌, ◌-◌, ◌<◌, ◌≤◌, Bool, true, false, List, length, get_or, set, sym, refl, ap, ◌∙◌, subst, ⊎_elim, get_or-set_other, get_or-set_same, below_more}
+use Rattle.std.proofs.Common.{◌≡◌, ℕ, ◌+◌, ◌-◌, ◌<◌, ◌≤◌, Bool, true, false, List, length, get_or, replicate, set, sym, refl, ap, ◌∙◌, subst, ⊎_elim, get_or-set_other, get_or-set_same, below_more}
 use Rattle.std.proofs.lemmas.Bool.{cases_Bool, cases_eq, false≢true}
 use Rattle.service.specs.declared.Record.{Record}
 use Rattle.service.specs.declared.Response.{Response}
@@ -7,12 +7,13 @@ use Rattle.service.specs.Numbers.{Numbers}
 use Rattle.items.specs.declared.Item.{Item}
 use Rattle.items.specs.Items.{item_at}
 use Rattle.items.specs.Conditions.{bit_time_of}
+use Rattle.items.specs.Valid.{Valid}
 use Rattle.tables.specs.Demands.{Span, span, rows_on, place_on}
 use Rattle.consult.specs.declared.window.Window.{Window}
 use Rattle.consult.specs.Answers.{Renewed, Answered}
 use Rattle.consult.specs.Windows.{spans_of, front, jitter_of}
 use Rattle.consult.proofs.Fronts.{front_at, front_length}
-use Rattle.consult.proofs.Reused.{AsLong, same_rows}
+use Rattle.consult.proofs.Reused.{AsLong, same_rows, all_marked}
 use Rattle.settle.specs.Passes.{mark_of, Marked}
 use Rattle.settle.specs.Sweeps.{Fresh}
 
@@ -33,6 +34,13 @@ module _ (xs : List Item) (ws vs : List Span) (marks : List Bool) (n : ℕ) (bef
       below_more _ _
       (λ k lt off. before k lt (set_off marks _ ((item_at xs k).resource - 1) h off).1)
       (λ off. absurd ((set_off marks _ _ h off).0 refl))
+
+-- of answers that are all stale nothing is claimed
+pub fresh_none : (rule : Numbers) (bits : List ℕ) (xs : List Item) → Valid bits xs → (ws : List Span) (answers : List Response) → Fresh rule bits xs ws (replicate 16 true) answers
+fresh_none rule bits xs valid ws answers = record {
+  least = λ k h off. absurd (false≢true (sym off ∙ all_marked bits xs valid k h));
+  worst = λ k h off. absurd (false≢true (sym off ∙ all_marked bits xs valid k h));
+}
 
 -- two tables of windows that differ in length only where a resource is marked have one list of answers where it is not
 pub fresh_after : (rule : Numbers) (bits : List ℕ) (xs : List Item) (ws vs : List Window) (marks : List Bool) (answers : List Response) → length xs ≤ length ws → length xs ≤ length vs

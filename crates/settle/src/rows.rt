@@ -31,6 +31,7 @@ impl<'a, R: Rule> Sweeps<'a, R> {
         ensures rows { (k : ℕ) → k < length self.now.network.now.items.now → row_at table.new k ≡ row_for (item_at self.now.network.now.items.now k).number (span (spans_of self.now.windows) k) (answer self.now.answers k) }
         ensures rest { (k : ℕ) → length self.now.network.now.items.now ≤ k → row_at table.new k ≡ row_at table.old k }
     {
+        // By index: the library says nothing of what is written through an adapter of `iter_mut`.
         for (at, item) in self.network.items.iter().enumerate() {
             table[at] = row_of(item.number, self.windows[at], self.answers[at]);
         }

@@ -2,9 +2,10 @@
 ghost use Rattle.plan.specs.Views.{view};
 ghost use Rattle.settle.specs.Settled.{Settled};
 
-use crate::sweeps::Sweeps;
+use crate::sweeps::{NONE, Sweeps};
 use crate::{Fault, WindowRow};
 use consult::network::Network;
+use consult::window::Window;
 use plan::Plan;
 use service::Rule;
 
@@ -30,7 +31,12 @@ pub fn settle<R: Rule>(
         return Err(Fault::TableShort);
     }
     let network = Network::new(rule, plan.bit_times(), items);
-    let mut sweeps = Sweeps::begin(&network);
+    let mut sweeps = Sweeps {
+        network: &network,
+        windows: [Window::EMPTY; 256],
+        stale: [true; 16],
+        answers: [NONE; 256],
+    };
     let count = sweeps.run(budget)?;
     sweeps.write(table);
     Ok(count)

@@ -1,17 +1,18 @@
 //! The sweeps of a settle.
 ghost use Rattle.std.specs.Prelude.{◌≡◌, ◌-◌, ◌≤◌, length};
 ghost use Rattle.consult.specs.Windows.{front};
+ghost use Rattle.tables.specs.Tables.{blank};
 ghost use Rattle.settle.specs.Settled.{Ends};
 ghost use Rattle.settle.specs.Sweeps.{Fresh, Made, Swept, Left};
 
 use crate::Fault;
-use crate::windows::{altered, lead, lowest_unbounded, renewed, stale_resources};
+use crate::windows::{altered, lead, lowest_unbounded, renew_windows, stale_resources};
 use consult::network::Network;
 use consult::window::Window;
 use service::{Response, Rule};
 
 /// What stands in the answers at first.
-const NONE: Response = Response {
+pub(crate) const NONE: Response = Response {
     least: 0,
     worst: None,
 };
@@ -31,21 +32,15 @@ pub(crate) struct Sweeps<'a, R: Rule> {
 
 impl<'a, R: Rule> Sweeps<'a, R> {
     /// The first table, from the answers to empty windows.
-    pub fn begin(network: &'a Network<'a, R>) -> Self
-        ensures same { result.network.now ≡ network.now }
-        ensures first { Made (R.Rule.numbers network.now.rule.now) network.now.bits.now network.now.items.now 0 (front (length network.now.items.now) result.windows) }
+    fn begin(&mut self)
+        requires { front (length self.old.network.now.items.now) self.old.windows ≡ blank (R.Rule.numbers self.old.network.now.rule.now) self.old.network.now.bits.now self.old.network.now.items.now }
+        ensures same { self.new.network ≡ self.old.network }
+        ensures first { Made (R.Rule.numbers self.new.network.now.rule.now) self.new.network.now.bits.now self.new.network.now.items.now 0 (front (length self.new.network.now.items.now) self.new.windows) }
     {
-        let empty = [Window::EMPTY; 256];
-        let mut answers = [NONE; 256];
-        network.consult(&empty, &mut answers);
-        let windows = lead(network, &answers);
-        let stale = stale_resources(network, &empty, &windows);
-        Sweeps {
-            network,
-            windows,
-            stale,
-            answers,
-        }
+        let empty = self.windows;
+        self.network.consult(&empty, &mut self.answers);
+        lead(self.network, &self.answers, &mut self.windows);
+        self.stale = stale_resources(self.network, &empty, &self.windows);
     }
 
     /// The sweep of a number, counted from 1: consults the rule on the items of the stale resources and renews the windows.
@@ -67,7 +62,8 @@ impl<'a, R: Rule> Sweeps<'a, R> {
                 sweep: number,
             });
         }
-        let next = renewed(self.network, &self.windows, &self.answers);
+        let mut next = self.windows;
+        renew_windows(self.network, &self.windows, &self.answers, &mut next);
         if !altered(&self.windows, &next, count) {
             return Ok(false);
         }
@@ -76,13 +72,14 @@ impl<'a, R: Rule> Sweeps<'a, R> {
         Ok(true)
     }
 
-    /// The sweeps from the first table on, until one alters nothing or the budget is spent: how many there were.
+    /// The sweeps from empty windows on, until one alters nothing or the budget is spent: how many there were.
     pub fn run(&mut self, budget: u32) -> Result<u32, Fault>
-        requires { Made (R.Rule.numbers self.old.network.now.rule.now) self.old.network.now.bits.now self.old.network.now.items.now 0 (front (length self.old.network.now.items.now) self.old.windows) }
+        requires { front (length self.old.network.now.items.now) self.old.windows ≡ blank (R.Rule.numbers self.old.network.now.rule.now) self.old.network.now.bits.now self.old.network.now.items.now }
         ensures same { self.new.network ≡ self.old.network }
         ensures ends { Ends (R.Rule.numbers self.new.network.now.rule.now) self.new.network.now.bits.now self.new.network.now.items.now budget result }
         ensures left { Left (R.Rule.numbers self.new.network.now.rule.now) self.new.network.now.bits.now self.new.network.now.items.now (front (length self.new.network.now.items.now) self.new.windows) self.new.answers result }
     {
+        self.begin();
         for number in 1..=budget {
             if !self.sweep(number)? {
                 return Ok(number);

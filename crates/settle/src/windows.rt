@@ -72,32 +72,34 @@ fn window_at<R: Rule, F: Fn(Window, Response) -> Window>(
     }
 }
 
-/// The windows after a sweep, all from one table.
-pub(crate) fn renewed<R: Rule>(
+/// The windows after a sweep, all from one table, in the front of `next`.
+pub(crate) fn renew_windows<R: Rule>(
     network: &Network<R>,
     windows: &[Window; 256],
     answers: &[Response; 256],
-) -> [Window; 256]
+    next: &mut [Window; 256],
+)
     requires { (k : ℕ) → k < length network.now.items.now → Narrow (window_by after network.now.items.now (spans_of windows.now) answers.now k) }
-    ensures { Renewed network.now.items.now (spans_of windows.now) answers.now (spans_of result) }
+    ensures { Renewed network.now.items.now (spans_of windows.now) answers.now (spans_of next.new) }
 {
-    let mut next = *windows;
     for at in 0..network.items.len() {
         next[at] = window_at(network, windows, answers, at, window_after);
     }
-    next
 }
 
-/// The windows of the first table, each from an earlier one.
-pub(crate) fn lead<R: Rule>(network: &Network<R>, answers: &[Response; 256]) -> [Window; 256]
+/// The windows of the first table, each from an earlier one, in the front of `windows`.
+pub(crate) fn lead<R: Rule>(
+    network: &Network<R>,
+    answers: &[Response; 256],
+    windows: &mut [Window; 256],
+)
     requires { (k : ℕ) → k < length network.now.items.now → (answer answers.now k).least ≤ 20000000 }
-    ensures { Led network.now.items.now answers.now (spans_of result) (length network.now.items.now) }
+    ensures long { length windows.new ≡ 256 }
+    ensures led { Led network.now.items.now answers.now (spans_of windows.new) (length network.now.items.now) }
 {
-    let mut windows = [Window::EMPTY; 256];
     for at in 0..network.items.len() {
-        windows[at] = window_at(network, &windows, answers, at, window_leading);
+        windows[at] = window_at(network, windows, answers, at, window_leading);
     }
-    windows
 }
 
 /// Whether one of the first `count` windows differs.

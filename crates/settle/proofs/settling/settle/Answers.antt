@@ -1,12 +1,14 @@
 -- What a settle answers and writes.
-use Rattle.std.proofs.Common.{◌≡◌, ℕ, List, length, Ok, sym, ap, ◌∙◌, subst, arith}
+use Rattle.std.proofs.Common.{◌≡◌, ℕ, List, length, Ok, sym, ap, ◌∙◌, subst, rules, arith}
 use Rattle.items.specs.declared.Item.{Item}
 use Rattle.items.specs.Valid.{Valid}
 use Rattle.plan.specs.declared.Plan.{Plan}
 use Rattle.plan.specs.Views.{view}
 use Rattle.plan.proofs.Kept.{plan_valid}
+use Rattle.consult.proofs.Fronts.{front_empty}
 use Rattle.settle.specs.Settled.{Settled}
 use Rattle.settle.proofs.Records.{settled_count}
+use Rattle.settle.proofs.Stale.{fresh_none}
 use Rattle.settle.proofs.settling.settle.Goals as goal
 
 -- what the plan tells of itself is valid
@@ -23,7 +25,7 @@ new-network-requires g c = told_valid c.args.plan.now c.bit_times.result.now c.i
 pub returns : goal.returns
 returns g c =
     let network = c.run.new.self.network.now in
-    let made = ap (λ b. b.now) c.in_ok-count.ensures.same ∙ c.begin-sweeps.ensures.same in
+    let made = ap (λ b. b.now) c.in_ok-count.ensures.same in
     let long : length network.items.now ≡ length c.items-items.result.now = ap (λ n. length n.items.now) made ∙ ap length c.new-network.ensures.items in
     of_made
     (λ r b x. Settled (g.R.Rule.allows r) (g.R.Rule.numbers r) b x c.args.budget c.args.table.now c.write.new.table (Ok c.in_ok-count.count))
@@ -31,3 +33,9 @@ returns g c =
     (ap (λ n. n.rule.now) made ∙ c.new-network.ensures.rule) (ap (λ n. n.bits.now) made ∙ c.new-network.ensures.bits ∙ c.bit_times.ensures) (ap (λ n. n.items.now) made ∙ c.new-network.ensures.items ∙ c.items-items.ensures)
     (settled_count _ _ network.bits.now network.items.now c.args.budget c.in_ok-count.count c.run.new.self.windows c.run.new.self.answers c.args.table.now c.write.new.table
     (g.met.R.Rule.lawful network.rule.now) network.valid (omega arith, omega arith) (omega arith) c.in_ok-count.ensures.ends c.in_ok-count.ensures.left (omega arith) c.write.ensures.rows c.write.ensures.rest)
+
+pub invariant_of-sweeps-2 : goal.invariant_of-sweeps-2
+invariant_of-sweeps-2 g c = record { fresh = fresh_none _ _ _ c.new-network.result.valid _ _ }
+
+pub run-requires : goal.run-requires
+run-requires g c = front_empty _ _ (search rules) c.new-network.result.valid.size

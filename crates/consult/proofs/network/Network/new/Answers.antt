@@ -7,16 +7,6 @@ use Rattle.consult.proofs.Links.{own_period, before}
 use Rattle.consult.proofs.network.Network.new.Goals as goal
 use Rattle.consult.proofs.network.Network.new.Goals.{in-Some, in-None}
 
-pub offset_bounds-base-place : goal.offset_bounds-base-place
-offset_bounds-base-place g c =
-    let b = before c.args.bits.now c.args.items.now c.requires c.loop-at.at c.in-Some.place c.loop-at-test.true (sym c.link_at-link.ensures ∙ c.in-Some.is) in
-    omega (arith, b.earlier, c.requires.size)
-
-pub bounds-base-place : goal.bounds-base-place
-bounds-base-place g c =
-    let b = before c.args.bits.now c.args.items.now c.requires c.loop-at.at c.in-Some.place c.loop-at-test.true (sym c.link_at-link.ensures ∙ c.in-Some.is) in
-    omega (arith, b.earlier, c.requires.size)
-
 pub loop-at-preserved : goal.loop-at-preserved
 loop-at-preserved g c =
     let bits = c.args.bits.now in

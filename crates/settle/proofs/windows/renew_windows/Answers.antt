@@ -3,7 +3,7 @@ use Rattle.std.proofs.Common.{◌≡◌, ◌∙◌, arith, length-set, below_mor
 use Rattle.consult.specs.Windows.{span_of, spans_of}
 use Rattle.settle.specs.Passes.{after, window_by}
 use Rattle.settle.proofs.Followers.{set_here, set_others, narrow_from}
-use Rattle.settle.proofs.windows.renewed.Goals as goal
+use Rattle.settle.proofs.windows.renew_windows.Goals as goal
 
 pub window_at-requires-clause-ready : goal.window_at-requires-clause-ready
 window_at-requires-clause-ready g c = narrow_from after _ _ c.args.answers.now _ c.args.network.now.linked c.loop-at.at (omega arith) (c.requires c.loop-at.at (omega arith))

@@ -1,9 +1,9 @@
--- What the pass of `renewed` keeps.
+-- What the pass of `renew_windows` keeps.
 use Rattle.std.proofs.Common.{◌≡◌, ℕ, ◌<◌, length}
 use Rattle.tables.specs.Demands.{span}
 use Rattle.consult.specs.Windows.{spans_of}
 use Rattle.settle.specs.Passes.{after, window_by}
-use Rattle.settle.proofs.windows.renewed.Given as goal
+use Rattle.settle.proofs.windows.renew_windows.Given as goal
 
 -- the windows that were passed are new
 abbrev pub invariant-loop-at : goal.invariant-loop-at
