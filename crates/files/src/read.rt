@@ -29,6 +29,7 @@ pub fn read(bytes: &[u8]) -> Result<Plan, FileFault>
     let Ok(mut plan) = Plan::open(file.bit_times()) else {
         return Err(FileFault::BitTime);
     };
+    // An iterator over the records would be a type of its own with this one use.
     for place in 0..file.count() {
         admit(&mut plan, file.record(place))?;
     }

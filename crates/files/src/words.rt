@@ -4,6 +4,8 @@ ghost use Rattle.layout.specs.Bytes.{word};
 
 use byteorder::{ByteOrder, LittleEndian};
 
+// Two functions, since `byteorder` has a method for each width.
+
 /// The number of 16 bits at a place.
 pub(crate) fn u16_at(bytes: &[u8], at: usize) -> u16
     requires { at + 2 ≤ length bytes.now }

@@ -5,6 +5,9 @@ ghost use Rattle.std.specs.Prelude.{◌≡◌, ◌+◌, ◌<◌, ◌≤◌, [], 
 
 use std::alloc::AllocError;
 
+#[cfg(test)]
+mod tests;
+
 /// A list of at most `N` elements, in the front of an array. It is `Copy`, as an `arrayvec::ArrayVec` is not.
 #[derive(Copy)]
 pub struct Front<T, const N: usize> {
