@@ -17,8 +17,8 @@ const NO_BUS: u8 = 0;
 pub struct Bus;
 
 /// The worst response of the row meant.
-fn worst_at(bit_time: u8, meant: &Meant) -> Option<u32>
-    ensures { result ≡ bus_worst bit_time meant.now.rows.records.now meant.now.place }
+fn worst_at(bit_time: u8, meant: Meant) -> Option<u32>
+    ensures { result ≡ bus_worst bit_time meant.entry.rows.records.now meant.entry.place }
 {
     if bit_time == NO_BUS {
         return None;
@@ -46,7 +46,7 @@ impl Rule for Bus {
                 least: row.told.least,
                 worst: worst_at(
                     bit_time,
-                    &Meant {
+                    Meant {
                         rows: Rows { records },
                         place,
                     },

@@ -14,8 +14,8 @@ use service::{Record, Response, Rule};
 pub struct Processor;
 
 /// The worst response of the row meant.
-fn worst_at(meant: &Meant) -> Option<u32>
-    ensures { result ≡ processor_worst meant.now.rows.records.now meant.now.place }
+fn worst_at(meant: Meant) -> Option<u32>
+    ensures { result ≡ processor_worst meant.entry.rows.records.now meant.entry.place }
 {
     let row = meant.row();
     let demand = Demand {
@@ -38,7 +38,7 @@ impl Rule for Processor {
             Err(answer) => answer,
             Ok(row) => Response {
                 least: row.told.least,
-                worst: worst_at(&Meant {
+                worst: worst_at(Meant {
                     rows: Rows { records },
                     place,
                 }),

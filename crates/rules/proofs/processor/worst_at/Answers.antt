@@ -7,7 +7,7 @@ use Rattle.rules.proofs.processor.worst_at.Goals as goal
 
 pub returns : goal.returns
 returns c =
-    let rs = c.args.meant.now.rows.records.now in
+    let rs = c.args.meant.rows.records.now in
     let worst : Record → Option ℕ = λ r. fitting r (solution (λ n. r.greatest + above r.priority 0 n rs) r.period) in
     let w = c.row-row.result.told in
     let alone = plus_none (solution (λ n. w.greatest + above w.priority 0 n rs) w.period) in
