@@ -42,6 +42,7 @@ pub fn tell(rt: &HostRuntime, text: impl Display + Drop) -> Result<(), ExitCode>
 pub fn status_of(run: Result<(), ExitCode>) -> ExitCode
     ensures { MatchResult run (λ _. exit_status result ≡ 0) (λ status. result ≡ status) }
 {
+    // Not by returning the `Result` from `main`, which would print its error a second time.
     match run {
         Ok(()) => ExitCode::SUCCESS,
         Err(status) => status,

@@ -5,7 +5,7 @@ ghost use Rattle.tables.specs.Demands.{rows_on};
 ghost use Rattle.consult.specs.Answers.{AnsweredOn, Renewed, Answered};
 ghost use Rattle.consult.specs.Windows.{front};
 
-use crate::network::{NO_ROW, Network};
+use crate::network::Network;
 use crate::window::Window;
 use service::{Record, Response, Rule};
 
@@ -14,6 +14,7 @@ impl<'a, R: Rule> Network<'a, R> {
     fn ask_each(&self, bit_time: u8, rows: &[Record], resource: u16, answers: &mut [Response; 256])
         ensures { AnsweredOn (R.Rule.numbers self.now.rule.now) bit_time rows.now resource self.now.items.now answers.old answers.new }
     {
+        // Counted by hand: two `enumerate`s with a filter between would hand on a pair in a pair.
         let mut place = 0;
         for (at, item) in self.items.iter().enumerate() {
             if item.resource == resource {
@@ -46,7 +47,7 @@ impl<'a, R: Rule> Network<'a, R> {
         requires { length self.now.items.now ≤ length windows.now }
         ensures { Renewed (R.Rule.numbers self.now.rule.now) self.now.bits.now self.now.items.now (front (length self.now.items.now) windows.now) stale.now answers.old answers.new }
     {
-        let mut rows = [NO_ROW; 256];
+        let mut rows = [Record::default(); 256];
         for resource in 1..=self.bits.len() as u16 {
             if stale[usize::from(resource) - 1] {
                 self.consult_on(windows, resource, &mut rows, answers);

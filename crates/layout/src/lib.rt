@@ -19,7 +19,7 @@ pub enum FileFault {
 }
 
 impl FileFault {
-    /// The number under which the fault is reported.
+    /// The number under which the fault is reported. A variant holds a value, so that none can be the enum's own.
     pub fn number(&self) -> u8
         ensures { result ≡ file_number self.now }
     {

@@ -26,6 +26,7 @@ fn worst_at(meant: Meant) -> Option<u32>
     demand.response(&meant.rows, &row, 0)
 }
 
+// The bus's `respond` looks the same: one function for both would take a closure for the one line in which they differ.
 impl Rule for Processor {
     ghost allows = { λ _ _ records x. ProcessorRun records x };
 

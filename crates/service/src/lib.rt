@@ -26,7 +26,7 @@ pub struct Record {
 }
 
 /// The least response, and the worst one if there is a bound.
-#[derive(Clone, Copy)]
+#[derive(Clone, Copy, Default)]
 pub struct Response {
     pub least: u32,
     pub worst: Option<u32>,
@@ -50,6 +50,7 @@ pub trait Rule {
     /// The least and the worst response of the row at a place.
     ghost numbers: { Self → Numbers };
 
+    // A bit time of 0 is a processor's: C callers and plan files hand over the byte, and the bus's equations count with it.
     fn respond(&self, bit_time: u8, records: &[Record], place: usize) -> Response
         ensures least { result.least ≡ (numbers self.now).least bit_time records.now place }
         ensures worst { result.worst ≡ (numbers self.now).worst bit_time records.now place };

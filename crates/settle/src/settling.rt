@@ -2,12 +2,12 @@
 ghost use Rattle.plan.specs.Views.{view};
 ghost use Rattle.settle.specs.Settled.{Settled};
 
-use crate::sweeps::{NONE, Sweeps};
+use crate::sweeps::Sweeps;
 use crate::{Fault, WindowRow};
 use consult::network::Network;
 use consult::window::Window;
 use plan::Plan;
-use service::Rule;
+use service::{Response, Rule};
 
 /// The most sweeps of a budget.
 pub const MOST_SWEEPS: u32 = 10_000;
@@ -35,7 +35,7 @@ pub fn settle<R: Rule>(
         network: &network,
         windows: [Window::EMPTY; 256],
         stale: [true; 16],
-        answers: [NONE; 256],
+        answers: [Response::default(); 256],
     };
     let count = sweeps.run(budget)?;
     sweeps.write(table);

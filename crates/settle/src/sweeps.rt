@@ -11,12 +11,6 @@ use consult::network::Network;
 use consult::window::Window;
 use service::{Response, Rule};
 
-/// What stands in the answers at first.
-pub(crate) const NONE: Response = Response {
-    least: 0,
-    worst: None,
-};
-
 /// Where the sweeps over a network stand.
 #[derive(Drop)]
 pub(crate) struct Sweeps<'a, R: Rule> {

@@ -12,6 +12,7 @@ use rules::pair::Pair;
 use rules::processor::Processor;
 use service::{Record, Rule};
 
+// 0 for none, since C has no `Option`.
 /// The worst response of the row at a place under the pair of the processor and the bus rule, or 0 if there is none.
 #[unsafe(no_mangle)]
 pub extern "C" fn proved_worst(bit_time: u8, records: &[Record], place: usize) -> u32

@@ -1,5 +1,5 @@
 -- Tables of release windows, the sweep, and what makes a table steady. `least` and `worst` are what a rule answers.
-use Rattle.std.specs.Prelude.{◌≡◌, ℕ, zero, suc, ◌+◌, ◌<◌, ◌≤◌, cond, List, map, length, replicate, Some, None, Option, unwrap_or, ◌==◌}
+use Rattle.std.specs.Prelude.{◌≡◌, ℕ, zero, suc, ◌+◌, ◌<◌, ◌≤◌, cond, List, map, length, replicate, Some, Option, unwrap_or, ◌==◌}
 use Rattle.std.specs.List.{range_with_len}
 use Rattle.service.specs.Numbers.{Numbers}
 use Rattle.items.specs.declared.Item.{Item}

@@ -23,6 +23,7 @@ pub enum Stop {
     Memory,
 }
 
+// By hand: the contract of `replay` names the variant, and a derived `From` says nothing of it.
 impl From<Refusal> for Stop {
     ghost from_gives = { λ refusal stop. stop ≡ Unopened refusal };
 
