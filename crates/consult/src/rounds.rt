@@ -9,6 +9,7 @@ use crate::network::Network;
 use crate::window::Window;
 use service::{Record, Response, Rule};
 
+// The windows are a slice, of any length that covers the items: an array of 256 would ask more of callers.
 impl<'a, R: Rule> Network<'a, R> {
     /// The answers for the items on a resource, each by its place among them; the other answers stay.
     fn ask_each(&self, bit_time: u8, rows: &[Record], resource: u16, answers: &mut [Response; 256])
