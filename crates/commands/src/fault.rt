@@ -104,7 +104,7 @@ pub enum Wrong<'a> {
     Memory,
 }
 
-// The conversions are written out: a derive's say nothing of the error, which contracts name.
+// Written out: derived ones say nothing of the error, which contracts name.
 impl<'a> From<NoNumber<'a, Field>> for Wrong<'a> {
     ghost from_gives = { λ word wrong. wrong ≡ Numeral word };
 

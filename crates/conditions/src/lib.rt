@@ -28,7 +28,8 @@ fn some_above(limit: u8, bit_times: &[u8]) -> bool
     bit_times.iter().any(|bit_time| limit < *bit_time)
 }
 
-/// The bit time of a resource, counted from 1.
+/// The bit time of a resource, counted from 1; 0, a processor's, where there is none.
+// The definition says so too, and callers refuse such a resource beside it, so that an `Option` would be taken off again.
 pub fn bit_time(bit_times: &[u8], resource: u16) -> u8
     ensures { result ≡ bit_time_of bit_times.now resource }
 {

@@ -65,7 +65,7 @@ impl<'a, R: Rule> Network<'a, R> {
     {
         let mut links = [None; 256];
         let mut base = [Record::default(); 256];
-        // By index: a row needs the rows before it, which a loop over `base.iter_mut()` holds fast.
+        // By index: a row needs the rows before it, which a loop over `base.iter_mut()` borrows.
         for (at, item) in items.iter().enumerate() {
             let link = link_at(items, at);
             links[at] = link;

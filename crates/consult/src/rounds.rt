@@ -9,12 +9,13 @@ use crate::network::Network;
 use crate::window::Window;
 use service::{Record, Response, Rule};
 
+// The windows are a slice, of any length that covers the items: an array of 256 would ask more of callers.
 impl<'a, R: Rule> Network<'a, R> {
     /// The answers for the items on a resource, each by its place among them; the other answers stay.
     fn ask_each(&self, bit_time: u8, rows: &[Record], resource: u16, answers: &mut [Response; 256])
         ensures { AnsweredOn (R.Rule.numbers self.now.rule.now) bit_time rows.now resource self.now.items.now answers.old answers.new }
     {
-        // Counted by hand: two `enumerate`s with a filter between would hand on a pair in a pair.
+        // Counted by hand: after `enumerate`, `filter` and `enumerate` again the loop would take `(place, (at, _))`, and lose the item.
         let mut place = 0;
         for (at, item) in self.items.iter().enumerate() {
             if item.resource == resource {
@@ -48,6 +49,7 @@ impl<'a, R: Rule> Network<'a, R> {
         ensures { Renewed (R.Rule.numbers self.now.rule.now) self.now.bits.now self.now.items.now (front (length self.now.items.now) windows.now) stale.now answers.old answers.new }
     {
         let mut rows = [Record::default(); 256];
+        // By number: bit times and marks are both looked up by it, one of them in the call.
         for resource in 1..=self.bits.len() as u16 {
             if stale[usize::from(resource) - 1] {
                 self.consult_on(windows, resource, &mut rows, answers);

@@ -29,7 +29,7 @@ impl<'a, R: Rule> Network<'a, R> {
         requires { length self.now.items.now ≤ length windows.now }
         ensures { result.now ≡ rows_on self.now.bits.now self.now.items.now resource self.now.items.now (front (length self.now.items.now) windows.now) }
     {
-        // Counted by hand: the count is where the next row goes, and chosen rows come from three lists.
+        // Counted by hand: a `Front` would be filled with blanks for every resource of every sweep.
         let mut count = 0;
         for (at, item) in self.items.iter().enumerate() {
             if item.resource == resource {

@@ -13,13 +13,13 @@ use words::faults::{AtLine, text_of};
 use words::is_passed_over;
 
 #[derive(Drop)]
-pub struct Desk {
-    pub said: String,
+pub(crate) struct Desk {
+    pub(crate) said: String,
     session: Option<Session>,
 }
 
 impl Desk {
-    pub fn new(heap: Global) -> Desk {
+    pub(crate) fn new(heap: Global) -> Desk {
         Desk {
             said: String::new(heap),
             session: None,
@@ -27,7 +27,7 @@ impl Desk {
     }
 
     /// Ends the open session, if there is one.
-    pub fn close(&mut self, heap: Global) -> Result<(), replay::Stop> {
+    pub(crate) fn close(&mut self, heap: Global) -> Result<(), replay::Stop> {
         match self.session.take() {
             None => Ok(()),
             Some(session) => session.tell(heap, &mut self.said),
@@ -87,7 +87,7 @@ impl Desk {
     }
 
     /// Takes every line of the bytes, which have to be text.
-    pub fn hear<'a>(&mut self, heap: Global, bytes: &'a [u8]) -> Result<(), Stop<'a>> {
+    pub(crate) fn hear<'a>(&mut self, heap: Global, bytes: &'a [u8]) -> Result<(), Stop<'a>> {
         let text = text_of(bytes, Reason::Encoding)?;
         self.take_all(heap, text)
     }

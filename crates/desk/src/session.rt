@@ -3,7 +3,7 @@ use commands::listed::Listed;
 use items::{Item, Refusal};
 use rules::machine::Machine;
 use std::alloc::{AllocError, Global};
-use texts::{SentBack, Windows};
+use texts::SentBack;
 use visits::replay::Stop;
 use visits::replay::list::replay;
 use visits::visit::{Answer, Visit};
@@ -20,7 +20,7 @@ fn done(visit: &Visit<Machine>) -> &'static str {
 }
 
 /// A line that tells why something was sent back.
-pub fn say_sent(said: &mut String, sent: SentBack) -> Result<(), AllocError> {
+pub(crate) fn say_sent(said: &mut String, sent: SentBack) -> Result<(), AllocError> {
     write!(said, "{sent}")
 }
 
@@ -42,10 +42,7 @@ fn say(said: &mut String, visit: &Visit<Machine>, answer: &Answer) -> Result<(),
         }
         Answer::Edited(Err(refusal)) => say_sent(said, SentBack::Plan(*refusal)),
         Answer::Settled(Ok(table)) => {
-            let windows = Windows {
-                sweeps: table.sweeps,
-                rows: table.rows.as_slice(),
-            };
+            let windows = table.shown();
             write!(said, "{windows}")
         }
         Answer::Settled(Err(fault)) => say_sent(said, SentBack::Settle(*fault)),
@@ -55,7 +52,7 @@ fn say(said: &mut String, visit: &Visit<Machine>, answer: &Answer) -> Result<(),
 
 /// A plan that was opened, and what was asked since.
 #[derive(Drop)]
-pub struct Session {
+pub(crate) struct Session {
     bit_times: Vec<u8>,
     // The visits stand beside the turns and not in them, since a replay takes them in a row.
     visits: Vec<Visit<Machine>>,
@@ -64,7 +61,7 @@ pub struct Session {
 }
 
 impl Session {
-    pub fn new(heap: Global, bit_times: Vec<u8>) -> Session {
+    pub(crate) fn new(heap: Global, bit_times: Vec<u8>) -> Session {
         Session {
             bit_times,
             visits: Vec::new(heap),
@@ -73,20 +70,20 @@ impl Session {
     }
 
     /// Notes a visit.
-    pub fn visit(&mut self, visit: Visit<Machine>) -> Result<(), AllocError> {
+    pub(crate) fn visit(&mut self, visit: Visit<Machine>) -> Result<(), AllocError> {
         self.visits.push(visit)?;
         self.turns.push(None)?;
         Ok(())
     }
 
     /// Notes that an opening was refused: this plan stays.
-    pub fn refuse(&mut self, refusal: Refusal) -> Result<(), AllocError> {
+    pub(crate) fn refuse(&mut self, refusal: Refusal) -> Result<(), AllocError> {
         self.turns.push(Some(refusal))?;
         Ok(())
     }
 
     /// Replays the session, and says what each of its lines is answered.
-    pub fn tell(&self, heap: Global, said: &mut String) -> Result<(), Stop> {
+    pub(crate) fn tell(&self, heap: Global, said: &mut String) -> Result<(), Stop> {
         let done = replay(heap, self.bit_times.as_slice(), self.visits.as_slice())?;
         writeln!(said, "opened")?;
         let mut answered = self.visits.iter().zip(done.answers.iter());

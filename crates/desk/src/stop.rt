@@ -6,7 +6,7 @@ use words::faults::AtLine;
 
 /// What is wrong with the line at which a script ends.
 #[derive(Clone, Copy, Debug, Error)]
-pub enum Reason<'a> {
+pub(crate) enum Reason<'a> {
     #[error("expected text in UTF-8")]
     Encoding,
     #[error("{0}")]
@@ -17,10 +17,10 @@ pub enum Reason<'a> {
     Switch,
     #[error("there is no memory left")]
     Memory(#[from(alloc)] AllocError),
-    /// A plan that was checked is not replayed only for want of memory.
+    /// A checked plan fails to replay only for want of memory.
     #[error("there is no memory left")]
     Unreplayed,
 }
 
 /// The line at which a script ends, and why.
-pub type Stop<'a> = AtLine<Reason<'a>>;
+pub(crate) type Stop<'a> = AtLine<Reason<'a>>;

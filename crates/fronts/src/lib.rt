@@ -18,6 +18,7 @@ pub struct Front<T, const N: usize> {
     ghost within: { count ≤ N },
 }
 
+// Written out: a derive is refused where a generic struct has a ghost field.
 impl<T: Copy, const N: usize> Clone for Front<T, N> {
     ghost is_clone = { λ f g. g ≡ f };
 

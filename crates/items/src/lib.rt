@@ -22,7 +22,7 @@ pub enum Work {
 }
 
 /// One item of a plan: a task or a frame, the head of a chain or a follower in it.
-// Zeros and no `Option`: this is what is offered, and a follower with a period of its own must be sayable to be refused.
+// Zeros and no `Option`: this is what is offered, and a follower with a period of its own must be sayable to be refused; file and script write 0 for a head's predecessor.
 #[derive(Clone, Copy)]
 pub struct Item {
     pub number: u16,

@@ -1,4 +1,4 @@
-// What is looked up in a list of items, each by one walk over it.
+// What is looked up in a list of items, each by one walk over it: the list may be in any order, so none is a binary search.
 ghost use Rattle.std.specs.Prelude.{◌≡◌, ◌≤◌, false, length, MatchOption};
 ghost use Rattle.items.specs.Conditions.{stands, priority_used, has_successor};
 ghost use Rattle.items.specs.Places.{rank, First};

@@ -19,10 +19,11 @@ pub enum FileFault {
 }
 
 impl FileFault {
-    /// The number under which the fault is reported. A variant holds a value, so that none can be the enum's own.
+    /// The number under which the fault is reported.
     pub fn number(&self) -> u8
         ensures { result ≡ file_number self.now }
     {
+        // Matched by hand: an enum with a value in a variant does not cast to a number.
         match self {
             FileFault::Length => 20,
             FileFault::Sizes => 21,

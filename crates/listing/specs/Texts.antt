@@ -21,4 +21,4 @@ RowWrong ws (BitTime found) = ⊥
 RowWrong ws End = ⊥
 RowWrong ws (Count n) = (n ≡ length ws) × (length ws ≢ 5)
 RowWrong ws (Number e) = (length ws ≡ 5) × WordWrong 4294967295 e.quantity (slice_index_or ws (place e.quantity) []) e
-RowWrong ws (Memory e) = ⊥
+RowWrong ws Memory = ⊥

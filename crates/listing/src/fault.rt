@@ -1,8 +1,8 @@
 //! What can be wrong with a text that is read, and the message that says it.
 ghost use Rattle.std.specs.Prelude.{◌≡◌};
-ghost use Rattle.listing.specs.declared.fault.Wrong.TheVariants.{Number};
+ghost use Rattle.listing.specs.declared.fault.Wrong.TheVariants.{Number, Memory};
 
-use std::alloc::AllocError;
+use std::alloc::{AllocError, AllocFailed};
 use std::fmt;
 use thiserror::Error;
 use words::faults::AtLine;
@@ -58,15 +58,31 @@ pub enum Wrong<'a> {
     Number(NoNumber<'a, Field>),
     /// There is no memory for what the line says.
     #[error("there is no memory left")]
-    Memory(#[from(alloc)] AllocError),
+    Memory,
 }
 
-// Written out: a derive's conversion says nothing of the error, which a contract names.
+// Written out: derived ones say nothing of the error that they give.
 impl<'a> From<NoNumber<'a, Field>> for Wrong<'a> {
     ghost from_gives = { λ word wrong. wrong ≡ Number word };
 
     fn from(word: NoNumber<'a, Field>) -> Self {
         Wrong::Number(word)
+    }
+}
+
+impl From<AllocError> for Wrong<'_> {
+    ghost from_gives = { λ _ wrong. wrong ≡ Memory };
+
+    fn from(_error: AllocError) -> Self {
+        Wrong::Memory
+    }
+}
+
+impl<T: Drop> From<AllocFailed<T>> for Wrong<'_> {
+    ghost from_gives = { λ _ wrong. wrong ≡ Memory };
+
+    fn from(_refused: AllocFailed<T>) -> Self {
+        Wrong::Memory
     }
 }
 

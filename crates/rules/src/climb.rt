@@ -7,8 +7,8 @@ ghost use Rattle.rules.specs.Workable.{Workable};
 use crate::rows::Rows;
 use crate::ticks::Ticks;
 
-/// How many steps a climb takes before it asks for a leap.
-const PATIENCE: u32 = 16;
+/// After how many steps a climb asks for a leap.
+const PATIENCE: u32 = 15;
 
 /// A step over the checked rows of a resource. Its solutions are the numbers that it leaves where they are.
 pub trait Step {
@@ -22,7 +22,7 @@ pub trait Step {
     fn start(&self, rows: &Rows) -> u64
         ensures { Under (to self.now rows.now.records.now) result };
 
-    /// Another such number, larger where a climb is long, and dearer.
+    /// Another such number, larger where a climb is long, and dearer to find.
     fn leap(&self, rows: &Rows) -> u64
         ensures { Under (to self.now rows.now.records.now) result };
 
@@ -35,15 +35,15 @@ pub(crate) fn climb<S: Step>(s: &S, rows: &Rows, limit: Ticks) -> Option<Ticks>
 {
     let most = u64::from(limit.count);
     let mut n = s.start(rows);
-    let mut patience = PATIENCE;
+    let mut steps = 0u32;
     'rise: while n <= most {
         let here = Ticks { count: n as u32 };
         let next = s.step(rows, here);
         if next == n {
             return Some(here);
         }
-        patience = patience.saturating_sub(1);
-        n = if patience == 1 {
+        steps = steps.saturating_add(1);
+        n = if steps == PATIENCE {
             next.max(s.leap(rows))
         } else {
             next

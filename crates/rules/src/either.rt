@@ -4,6 +4,7 @@ ghost use Rattle.rules.specs.declared.either.Either.TheVariants.{This, That};
 
 use service::{Record, Response, Rule};
 
+// Not the crate `either`'s: an impl of `Rule` for a type of another crate would have to stand with the trait.
 #[derive(Clone, Copy, Drop)]
 pub enum Either<A, B> {
     This(A),

@@ -26,7 +26,7 @@ fn worst_at(meant: Meant) -> Option<u32>
     demand.response(&meant.rows, &row, 0)
 }
 
-// The bus's `respond` looks the same: one function for both would take a closure for the one line in which they differ.
+// The bus's `respond` has these two arms too: the contract of one function for both would be longer, with a ghost function beside the closure that finds the worst.
 impl Rule for Processor {
     ghost allows = { λ _ _ records x. ProcessorRun records x };
 

@@ -42,6 +42,7 @@ impl Fault {
     pub fn number(&self) -> u8
         ensures { result ≡ fault_number self.now }
     {
+        // Matched by hand: an enum with a value in a variant does not cast to a number.
         match self {
             Fault::Budget => 16,
             Fault::TableShort => 17,

@@ -82,7 +82,7 @@ pub(crate) fn renew_windows<R: Rule>(
     requires { (k : ℕ) → k < length network.now.items.now → Narrow (window_by after network.now.items.now (spans_of windows.now) answers.now k) }
     ensures { Renewed network.now.items.now (spans_of windows.now) answers.now (spans_of next.new) }
 {
-    // By index: the window at a place is made from lists at that place and at its predecessor's.
+    // By index: the library says nothing of what is written through an adapter of `iter_mut`.
     for at in 0..network.items.len() {
         next[at] = window_at(network, windows, answers, at, window_after);
     }
@@ -98,7 +98,7 @@ pub(crate) fn lead<R: Rule>(
     ensures long { length windows.new ≡ 256 }
     ensures led { Led network.now.items.now answers.now (spans_of windows.new) (length network.now.items.now) }
 {
-    // By index: a window needs the windows before it, which a loop over `windows.iter_mut()` holds fast.
+    // By index: a window needs the windows before it, which a loop over `windows.iter_mut()` borrows.
     for at in 0..network.items.len() {
         windows[at] = window_at(network, windows, answers, at, window_leading);
     }

@@ -5,7 +5,6 @@
 use buffers::BufferFault;
 use std::alloc::Global;
 use std::{env, fs};
-use texts::Windows;
 use texts::buffer::{write_refusal, write_windows};
 use timing::line::windows_of;
 use timing::outcome::Outcome;
@@ -13,13 +12,7 @@ use timing::outcome::Outcome;
 /// Writes the text of an outcome into the front of a buffer, and answers how many bytes it has.
 fn write_outcome(outcome: &Outcome, buffer: &mut [u8]) -> Result<usize, BufferFault> {
     match outcome {
-        Ok(table) => write_windows(
-            Windows {
-                sweeps: table.sweeps,
-                rows: table.rows.as_slice(),
-            },
-            buffer,
-        ),
+        Ok(table) => write_windows(table.shown(), buffer),
         Err(sent) => write_refusal(*sent, buffer),
     }
 }

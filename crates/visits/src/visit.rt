@@ -1,6 +1,9 @@
 //! What a visitor asks of a plan, and what is answered.
+ghost use Rattle.std.specs.Prelude.{◌≡◌, vec_items};
+
 use items::{Item, Refusal, Work};
 use settle::{Fault, WindowRow};
+use texts::Windows;
 
 /// What a visitor asks. A settle brings its rule, its budget of sweeps, and how many rows its table has.
 #[derive(Drop)]
@@ -18,6 +21,19 @@ pub enum Visit<R> {
 pub struct SettledTable {
     pub sweeps: u32,
     pub rows: Vec<WindowRow>,
+}
+
+impl SettledTable {
+    /// The table, to be shown or written.
+    pub fn shown(&self) -> Windows<'_>
+        ensures sweeps { result.sweeps ≡ self.now.sweeps }
+        ensures rows { result.rows.now ≡ vec_items self.now.rows }
+    {
+        Windows {
+            sweeps: self.sweeps,
+            rows: self.rows.as_slice(),
+        }
+    }
 }
 
 /// What a visitor is answered.

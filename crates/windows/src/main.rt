@@ -6,7 +6,7 @@ ghost use Rattle.std.specs.Process.{exit_status};
 
 use console::{fail, hear, status_of, tell};
 use std::process::ExitCode;
-use texts::{SentBack, Windows};
+use texts::SentBack;
 use timing::line::windows_of;
 
 /// Prints the refusal, and gives the status of a failure.
@@ -27,13 +27,7 @@ fn run(rt: &HostRuntime) -> Result<(), ExitCode>
         "there is no memory left",
     ))?;
     match outcome {
-        Ok(table) => tell(
-            rt,
-            Windows {
-                sweeps: table.sweeps,
-                rows: table.rows.as_slice(),
-            },
-        ),
+        Ok(table) => tell(rt, table.shown()),
         Err(sent) => refuse(rt, sent),
     }
 }

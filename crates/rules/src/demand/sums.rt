@@ -68,6 +68,7 @@ impl Demand {
     }
 
     /// How steeply the higher rows' demand rises, in parts of 2 ^ 32 a tick, each rounded down, and 2 ^ 32 at most.
+    // Not by `add_up`: 256 slopes may pass 64 bits, so this loop ends once it has the most that is answered.
     fn slope(&self, rows: &Rows) -> u64
         ensures value { result ≡ min (slopes self.now rows.now.records.now) (2 ^ 32) }
         ensures slow { RisesBy self.now rows.now.records.now result }

@@ -28,6 +28,7 @@ pub(crate) fn lengthen(rows: &Rows, ticks: u16, scratch: &mut [Record; 256])
     requires { roomy ticks rows.now.records.now ≡ true }
     ensures { take (length rows.now.records.now) scratch.new ≡ all_longer ticks rows.now.records.now }
 {
+    // By index: the library says nothing of what is written through an adapter of `iter_mut`.
     for (at, told) in rows.records.iter().enumerate() {
         scratch[at] = lengthened(*told, ticks);
     }

@@ -41,6 +41,7 @@ impl<R: Rule> Rule for Switch<R> {
                 if !has_room(records, self.ticks) {
                     return Response::unbounded(row.told.least);
                 }
+                // No heap: the longer rows stand in the front of an array.
                 let mut scratch = [Record::default(); 256];
                 lengthen(&Rows { records }, self.ticks, &mut scratch);
                 self.below

@@ -17,12 +17,12 @@ higher g c =
 pub returns-then-next-n : goal.returns-then-next-n
 returns-then-next-n g c = (record { stays = omega (arith, c.step-next.ensures); under = c.rise.invariant.0 }, omega arith)
 
-pub rise-smaller-then-patience-eq1 : goal.rise-smaller-then-patience-eq1
-rise-smaller-then-patience-eq1 g c = let h = higher g (goal.at.rise-smaller-then-patience-eq1 g c).Else-next-n in omega (arith, c.max-n.ensures)
+pub rise-smaller-then-steps-eq-PATIENCE : goal.rise-smaller-then-steps-eq-PATIENCE
+rise-smaller-then-steps-eq-PATIENCE g c = let h = higher g (goal.at.rise-smaller-then-steps-eq-PATIENCE g c).Else-next-n in omega (arith, c.max-n.ensures)
 
-pub rise-preserved-then-patience-eq1 : goal.rise-preserved-then-patience-eq1
-rise-preserved-then-patience-eq1 g c =
-    let h = higher g (goal.at.rise-preserved-then-patience-eq1 g c).Else-next-n in
+pub rise-preserved-then-steps-eq-PATIENCE : goal.rise-preserved-then-steps-eq-PATIENCE
+rise-preserved-then-steps-eq-PATIENCE g c =
+    let h = higher g (goal.at.rise-preserved-then-steps-eq-PATIENCE g c).Else-next-n in
     (λ k fixed. omega (arith, h.1 k fixed, c.leap.ensures k fixed, c.max-n.ensures), omega arith, omega arith)
 
 pub returns : goal.returns
