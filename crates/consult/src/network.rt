@@ -11,6 +11,16 @@ use crate::work::demands_of;
 use items::Item;
 use service::{Record, Rule};
 
+/// What stands in the rows at first.
+// A constant, since 256 calls of `default` in its place double the time of a settle of three items.
+pub(crate) const NO_ROW: Record = Record {
+    priority: 0,
+    period: 0,
+    jitter: 0,
+    least: 0,
+    greatest: 0,
+};
+
 /// The resources and the items of a valid plan, the rule, and what no window changes.
 #[derive(Drop)]
 pub struct Network<'a, R: Rule> {
@@ -64,7 +74,7 @@ impl<'a, R: Rule> Network<'a, R> {
         ensures items { result.items.now ≡ items.now }
     {
         let mut links = [None; 256];
-        let mut base = [Record::default(); 256];
+        let mut base = [NO_ROW; 256];
         // By index: a row needs the rows before it, which a loop over `base.iter_mut()` borrows.
         for (at, item) in items.iter().enumerate() {
             let link = link_at(items, at);

@@ -5,7 +5,7 @@ ghost use Rattle.tables.specs.Demands.{rows_on};
 ghost use Rattle.consult.specs.Answers.{AnsweredOn, Renewed, Answered};
 ghost use Rattle.consult.specs.Windows.{front};
 
-use crate::network::Network;
+use crate::network::{NO_ROW, Network};
 use crate::window::Window;
 use service::{Record, Response, Rule};
 
@@ -48,7 +48,7 @@ impl<'a, R: Rule> Network<'a, R> {
         requires { length self.now.items.now ≤ length windows.now }
         ensures { Renewed (R.Rule.numbers self.now.rule.now) self.now.bits.now self.now.items.now (front (length self.now.items.now) windows.now) stale.now answers.old answers.new }
     {
-        let mut rows = [Record::default(); 256];
+        let mut rows = [NO_ROW; 256];
         // By number: bit times and marks are both looked up by it, one of them in the call.
         for resource in 1..=self.bits.len() as u16 {
             if stale[usize::from(resource) - 1] {

@@ -9,6 +9,13 @@ use consult::window::Window;
 use plan::Plan;
 use service::{Response, Rule};
 
+/// What stands in the answers at first.
+// A constant, as the rows of `consult` are.
+const NONE: Response = Response {
+    least: 0,
+    worst: None,
+};
+
 /// The most sweeps of a budget.
 pub const MOST_SWEEPS: u32 = 10_000;
 
@@ -35,7 +42,7 @@ pub fn settle<R: Rule>(
         network: &network,
         windows: [Window::EMPTY; 256],
         stale: [true; 16],
-        answers: [Response::default(); 256],
+        answers: [NONE; 256],
     };
     let count = sweeps.run(budget)?;
     sweeps.write(table);
