@@ -47,9 +47,13 @@ impl<T: Copy, const N: usize> Front<T, N> {
         requires { length elements.now ≤ N }
         ensures { listed result ≡ elements.now }
     {
-        let mut front = Self::empty(blank);
-        front.append(elements);
-        front
+        // Filled before it is a list: where a list that was made is filled, a caller keeps two copies more of what holds it.
+        let mut slots = [blank; N];
+        slots[..elements.len()].copy_from_slice(elements);
+        Front {
+            slots,
+            count: elements.len(),
+        }
     }
 
     /// How many elements the list has.
