@@ -79,6 +79,8 @@ fn resource_of<'a>(heap: Global, text: &'a str) -> Result<Resource, Fault<'a>>
         bit_time: None,
         records: Vec::new(heap),
     };
+    // Kept beside the loop, since a walk of its own to count them would double the time of a text of comments.
+    let mut lines = 0usize;
     for (at, said) in text.lines().enumerate() {
         if let Err(wrong) = reader.take(heap, said) {
             return Err(AtLine {
@@ -86,12 +88,13 @@ fn resource_of<'a>(heap: Global, text: &'a str) -> Result<Resource, Fault<'a>>
                 wrong,
             });
         }
+        lines = at + 1;
     }
     let Reader { bit_time, records } = reader;
     match bit_time {
         Some(bit_time) => Ok(Resource { bit_time, records }),
         None => Err(AtLine {
-            line: text.lines().count() + 1,
+            line: lines.saturating_add(1),
             wrong: Wrong::End,
         }),
     }
