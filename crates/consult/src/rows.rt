@@ -1,9 +1,9 @@
 //! The rows that a rule is told of a resource: each item's row of no jitter, laid down once, and the rows of one resource with the jitters of a table.
-ghost use Rattle.std.specs.Prelude.{◌≡◌, ◌≤◌, length};
+ghost use Rattle.std.specs.Prelude.{◌≡◌, ℕ, ◌≤◌, List, length, take};
 ghost use Rattle.items.specs.Conditions.{bit_time_of};
 ghost use Rattle.items.specs.Valid.{Valid, ValidItem};
 ghost use Rattle.tables.specs.Demands.{rows_on};
-ghost use Rattle.consult.specs.Chains.{Linked};
+ghost use Rattle.consult.specs.Chains.{Linked, Timed};
 ghost use Rattle.consult.specs.Rows.{still_row, widened, Based};
 ghost use Rattle.consult.specs.Windows.{front, span_of};
 
@@ -27,6 +27,16 @@ fn base_row(bits: &[u8], item: &Item, period: u32) -> Record
         jitter: 0,
         least: demands.least,
         greatest: demands.greatest,
+    }
+}
+
+/// Each item's row of no jitter, in the front of `base`, from its head's period.
+pub fn base_rows(bits: &[u8], items: &[Item], ticks: &[u32; 256], base: &mut [Record; 256])
+    requires { (Valid bits.now items.now) × (Timed items.now ticks.now) }
+    ensures { Based bits.now items.now base.new }
+{
+    for (at, item) in items.iter().enumerate() {
+        base[at] = base_row(bits, item, ticks[at]);
     }
 }
 
@@ -65,6 +75,30 @@ fn widen(row: Record, window: Window) -> Record
     }
 }
 
+/// The rows of a resource with the jitters of a table, in the front of `rows`, and how many they are.
+pub fn rows_on(
+    items: &[Item],
+    base: &[Record; 256],
+    windows: &[Window],
+    resource: u16,
+    rows: &mut [Record; 256],
+) -> usize
+    requires few { length items.now ≤ 256 }
+    requires sized { length items.now ≤ length windows.now }
+    ensures count { result ≤ length items.now }
+    ensures told { (bits : List ℕ) → Based bits items.now base.now → take result rows.new ≡ rows_on bits items.now resource items.now (front (length items.now) windows.now) }
+{
+    // Counted by hand: a `Front` would be filled with blanks for every resource of every sweep.
+    let mut count = 0;
+    for (at, item) in items.iter().enumerate() {
+        if item.resource == resource {
+            rows[count] = widen(base[at], windows[at]);
+            count += 1;
+        }
+    }
+    count
+}
+
 impl<'a, R: Rule> Network<'a, R> {
     /// The rows of a resource with the jitters of a table, in the front of `rows`.
     pub fn rows_on<'r>(
@@ -76,14 +110,7 @@ impl<'a, R: Rule> Network<'a, R> {
         requires { length self.now.items.now ≤ length windows.now }
         ensures { result.now ≡ rows_on self.now.bits.now self.now.items.now resource self.now.items.now (front (length self.now.items.now) windows.now) }
     {
-        // Counted by hand: a `Front` would be filled with blanks for every resource of every sweep.
-        let mut count = 0;
-        for (at, item) in self.items.iter().enumerate() {
-            if item.resource == resource {
-                rows[count] = widen(self.base[at], windows[at]);
-                count += 1;
-            }
-        }
+        let count = rows_on(self.items, &self.base, windows, resource, rows);
         &rows[..count]
     }
 }
