@@ -1,5 +1,5 @@
 -- Where a predecessor stands: what a search by its number finds, and that its period is the follower's.
-use Rattle.std.proofs.Common.{◌≡◌, ℕ, zero, suc, ◌<◌, ◌≤◌, List, length, Some, None, Ok, Err, Option, Result, sym, ap, ◌∙◌, subst, ⊎_elim, not-suc-le-zero, arith}
+use Rattle.std.proofs.Common.{◌≡◌, ℕ, zero, suc, ◌<◌, ◌≤◌, List, [], length, Some, None, Ok, Err, Option, Result, sym, ap, ◌∙◌, subst, ⊎_elim, not-suc-le-zero, arith}
 use Rattle.std.specs.List.Sorted.{IsSearchInRange, IsBinarySearchResult, IsNonDecreasingBy}
 use Rattle.std.specs.Ordering.{nat_cmp, ordering_index}
 use Rattle.std.specs.Result.{result_ok}
@@ -16,6 +16,19 @@ use Rattle.tables.proofs.Chains.{Link, head_or_link, no_head, same_number, place
 use Rattle.consult.specs.Chains.{link_of}
 
 module _ (bits : List ℕ) (xs : List Item) (valid : Valid bits xs) where
+  -- what its bit times allow without items
+  pub valid_none : Valid bits []
+  valid_none = record {
+    resources_low = valid.resources_low;
+    resources_high = valid.resources_high;
+    bit_times = valid.bit_times;
+    size = omega arith;
+    each = λ k h. absurd (omega arith);
+    ascending = λ j k l h. absurd (omega arith);
+    apart = λ j k h l r p. absurd (omega arith);
+    linked = λ k h ne. absurd (omega arith);
+  }
+
   pub head_link : (k : ℕ) → (item_at xs k).predecessor ≡ 0 → link_of xs (item_at xs k) ≡ None
   head_link k z = rw (eq-eqb (item_at xs k).predecessor 0 z)
 

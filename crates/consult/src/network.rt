@@ -1,13 +1,11 @@
 //! The items of a plan with the rule of its resources, and what is laid down of them once for every table of windows.
-ghost use Rattle.std.specs.Prelude.{◌≡◌, ℕ, ◌<◌, List, length};
-ghost use Rattle.items.specs.Conditions.{bit_time_of};
-ghost use Rattle.items.specs.Items.{item_at};
-ghost use Rattle.items.specs.Valid.{Valid, ValidItem};
+ghost use Rattle.std.specs.Prelude.{◌≡◌, []};
+ghost use Rattle.items.specs.Valid.{Valid};
 ghost use Rattle.items.proofs.Valid.{valid_prop};
-ghost use Rattle.consult.specs.Chains.{link_of, Linked};
-ghost use Rattle.consult.specs.Rows.{still_row, Based};
+ghost use Rattle.consult.specs.Chains.{Linked};
+ghost use Rattle.consult.specs.Rows.{Based};
 
-use crate::work::demands_of;
+use crate::rows::lay_down;
 use items::Item;
 use service::{Record, Rule};
 
@@ -29,7 +27,7 @@ pub struct Network<'a, R: Rule> {
     pub bits: &'a [u8],
     pub items: &'a [Item],
     /// Where the predecessor of each item stands; a head has none.
-    pub links: [Option<usize>; 256],
+    pub links: [Option<u16>; 256],
     /// Each item's row of no jitter.
     pub base: [Record; 256],
     pub ghost valid: { Valid bits.now items.now } by { valid_prop bits.now items.now },
@@ -37,60 +35,43 @@ pub struct Network<'a, R: Rule> {
     pub ghost based: { Based bits.now items.now base },
 }
 
-/// An item's row of no jitter.
-fn base_row(bits: &[u8], item: &Item, period: u32) -> Record
-    requires { ValidItem bits.now item.now }
-    ensures { result ≡ still_row (bit_time_of bits.now item.now.resource) item.now period }
-{
-    let bit_time = bits[usize::from(item.resource) - 1];
-    let demands = demands_of(item.work, bit_time);
-    Record {
-        priority: item.priority,
-        period,
-        jitter: 0,
-        least: demands.least,
-        greatest: demands.greatest,
-    }
-}
-
-/// The place of the predecessor of the item at a place.
-fn link_at(items: &[Item], at: usize) -> Option<usize>
-    requires valid { (bits : List ℕ) × Valid bits items.now }
-    requires within { at < length items.now }
-    ensures { result ≡ link_of items.now (item_at items.now at) }
-{
-    items
-        .binary_search_by_key(&items[at].predecessor, |item| item.number)
-        .ok()
-}
-
 impl<'a, R: Rule> Network<'a, R> {
-    #[tactic(auto, using(crate::proofs::Links::place_low))]
-    /// Lays down each item's link and row. A predecessor stands lower, so its row, with the period of both, is there already.
+    /// The network of a plan that has no item yet.
+    pub fn of_none(rule: &'a R, bits: &'a [u8]) -> Self
+        requires { Valid bits.now [] }
+        ensures rule { result.rule.now ≡ rule.now }
+        ensures bits { result.bits.now ≡ bits.now }
+        ensures items { result.items.now ≡ [] }
+    {
+        Network {
+            rule,
+            bits,
+            items: &[],
+            links: [None; 256],
+            base: [NO_ROW; 256],
+        }
+    }
+
+    /// Takes these items in place of those that it has, and lays down each one's link and row.
+    pub fn take(&mut self, items: &'a [Item])
+        requires { Valid self.old.bits.now items.now }
+        ensures rule { self.new.rule ≡ self.old.rule }
+        ensures bits { self.new.bits ≡ self.old.bits }
+        ensures items { self.new.items ≡ items.entry }
+    {
+        lay_down(self.bits, items, &mut self.links, &mut self.base);
+        self.items = items;
+    }
+
+    /// Lays down each item's link and row. Where a move of the arrays counts, make one of no items and have it take them.
     pub fn new(rule: &'a R, bits: &'a [u8], items: &'a [Item]) -> Self
         requires { Valid bits.now items.now }
         ensures rule { result.rule.now ≡ rule.now }
         ensures bits { result.bits.now ≡ bits.now }
         ensures items { result.items.now ≡ items.now }
     {
-        let mut links = [None; 256];
-        let mut base = [NO_ROW; 256];
-        // By index: a row needs the rows before it, which a loop over `base.iter_mut()` borrows.
-        for (at, item) in items.iter().enumerate() {
-            let link = link_at(items, at);
-            links[at] = link;
-            let period = match link {
-                Some(place) => base[place].period,
-                None => item.period,
-            };
-            base[at] = base_row(bits, item, period);
-        }
-        Network {
-            rule,
-            bits,
-            items,
-            links,
-            base,
-        }
+        let mut network = Network::of_none(rule, bits);
+        network.take(items);
+        network
     }
 }

@@ -48,6 +48,10 @@ impl<'a, R: Rule> Network<'a, R> {
         requires { length self.now.items.now ≤ length windows.now }
         ensures { Renewed (R.Rule.numbers self.now.rule.now) self.now.bits.now self.now.items.now (front (length self.now.items.now) windows.now) stale.now answers.old answers.new }
     {
+        // With no item there is nothing to ask, and no scratch to fill.
+        if self.items.is_empty() {
+            return;
+        }
         let mut rows = [NO_ROW; 256];
         // By number: bit times and marks are both looked up by it, one of them in the call.
         for resource in 1..=self.bits.len() as u16 {

@@ -58,6 +58,6 @@ module _ (rule : Numbers) (bits : List ℕ) (xs : List Item) (valid : Valid bits
   pub front_first : (ws : List Window) → length xs ≤ length ws → Led xs answers (spans_of ws) (length xs) → front (length xs) ws ≡ first_table rule bits xs
   front_first ws room led = front_is ws (length xs) room (first_table rule bits xs) (tables.by_length rule bits xs (first_window rule bits xs)) (led_first (spans_of ws) led)
 
--- empty windows are the blank table
-pub told_empty : (rule : Numbers) (bits : List ℕ) (xs : List Item) (ws : List Window) → front (length xs) ws ≡ blank rule bits xs → (answers : List Response) → Answered rule bits xs (front (length xs) ws) answers → Answered rule bits xs (blank rule bits xs) answers
-told_empty rule bits xs ws empty answers = subst (λ (vs : List Span). Answered rule bits xs vs answers) empty
+-- one table has the answers of another that is the same
+pub told_alike : (rule : Numbers) (bits : List ℕ) (xs : List Item) (ws vs : List Span) → ws ≡ vs → (answers : List Response) → Answered rule bits xs ws answers → Answered rule bits xs vs answers
+told_alike rule bits xs ws vs same answers = subst (λ (us : List Span). Answered rule bits xs us answers) same

@@ -36,10 +36,10 @@ module _ (xs : List Item) (ws vs : List Span) (marks : List Bool) (n : ℕ) (bef
       (λ off. absurd ((set_off marks _ _ h off).0 refl))
 
 -- of answers that are all stale nothing is claimed
-pub fresh_none : (rule : Numbers) (bits : List ℕ) (xs : List Item) → Valid bits xs → (ws : List Span) (answers : List Response) → Fresh rule bits xs ws (replicate 16 true) answers
-fresh_none rule bits xs valid ws answers = record {
-  least = λ k h off. absurd (false≢true (sym off ∙ all_marked bits xs valid k h));
-  worst = λ k h off. absurd (false≢true (sym off ∙ all_marked bits xs valid k h));
+pub fresh_none : (rule : Numbers) (bits : List ℕ) (xs : List Item) → Valid bits xs → (ws : List Span) (marks : List Bool) (answers : List Response) → marks ≡ replicate 16 true → Fresh rule bits xs ws marks answers
+fresh_none rule bits xs valid ws marks answers all = record {
+  least = λ k h off. absurd (false≢true (sym off ∙ ap (λ (ms : List Bool). mark_of ms (item_at xs k)) all ∙ all_marked bits xs valid k h));
+  worst = λ k h off. absurd (false≢true (sym off ∙ ap (λ (ms : List Bool). mark_of ms (item_at xs k)) all ∙ all_marked bits xs valid k h));
 }
 
 -- two tables of windows that differ in length only where a resource is marked have one list of answers where it is not

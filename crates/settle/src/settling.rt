@@ -37,10 +37,13 @@ pub fn settle<R: Rule>(
     if table.len() < items.len() {
         return Err(Fault::TableShort);
     }
-    let network = Network::new(rule, plan.bit_times(), items);
+    // Not by `new`, from which the arrays would be moved.
+    let mut network = Network::of_none(rule, plan.bit_times());
+    network.take(items);
     let mut sweeps = Sweeps {
         network: &network,
         windows: [Window::EMPTY; 256],
+        next: [Window::EMPTY; 256],
         stale: [true; 16],
         answers: [NONE; 256],
     };

@@ -1,5 +1,5 @@
 //! The sweeps of a settle.
-ghost use Rattle.std.specs.Prelude.{◌≡◌, ◌-◌, ◌≤◌, length};
+ghost use Rattle.std.specs.Prelude.{◌≡◌, ◌-◌, ◌≤◌, true, length, replicate};
 ghost use Rattle.consult.specs.Windows.{front};
 ghost use Rattle.tables.specs.Tables.{blank};
 ghost use Rattle.settle.specs.Settled.{Ends};
@@ -17,6 +17,8 @@ pub(crate) struct Sweeps<'a, R: Rule> {
     pub network: &'a Network<'a, R>,
     /// A window for each item, in the front.
     pub windows: [Window; 256],
+    /// The windows that come next, in the front. A field, since an array of its own for each sweep is a copy for each.
+    pub next: [Window; 256],
     /// The resources for which the answers no longer hold, the first resource first.
     pub stale: [bool; 16],
     /// The rule's answer for each item, in the front.
@@ -27,14 +29,15 @@ pub(crate) struct Sweeps<'a, R: Rule> {
 impl<'a, R: Rule> Sweeps<'a, R> {
     /// The first table, from the answers to empty windows.
     fn begin(&mut self)
-        requires { front (length self.old.network.now.items.now) self.old.windows ≡ blank (R.Rule.numbers self.old.network.now.rule.now) self.old.network.now.bits.now self.old.network.now.items.now }
+        requires empty { front (length self.old.network.now.items.now) self.old.windows ≡ blank (R.Rule.numbers self.old.network.now.rule.now) self.old.network.now.bits.now self.old.network.now.items.now }
+        requires next { front (length self.old.network.now.items.now) self.old.next ≡ blank (R.Rule.numbers self.old.network.now.rule.now) self.old.network.now.bits.now self.old.network.now.items.now }
+        requires stale { self.old.stale ≡ replicate 16 true }
         ensures same { self.new.network ≡ self.old.network }
         ensures first { Made (R.Rule.numbers self.new.network.now.rule.now) self.new.network.now.bits.now self.new.network.now.items.now 0 (front (length self.new.network.now.items.now) self.new.windows) }
     {
-        let empty = self.windows;
-        self.network.consult(&empty, &mut self.answers);
+        self.network.consult(&self.windows, &mut self.answers);
         lead(self.network, &self.answers, &mut self.windows);
-        self.stale = stale_resources(self.network, &empty, &self.windows);
+        self.stale = stale_resources(self.network, &self.next, &self.windows);
     }
 
     /// The sweep of a number, counted from 1: consults the rule on the items of the stale resources and renews the windows.
@@ -56,19 +59,20 @@ impl<'a, R: Rule> Sweeps<'a, R> {
                 sweep: number,
             });
         }
-        let mut next = self.windows;
-        renew_windows(self.network, &self.windows, &self.answers, &mut next);
-        if !altered(&self.windows, &next, count) {
+        renew_windows(self.network, &self.windows, &self.answers, &mut self.next);
+        if !altered(&self.windows, &self.next, count) {
             return Ok(false);
         }
-        self.stale = stale_resources(self.network, &self.windows, &next);
-        self.windows = next;
+        self.stale = stale_resources(self.network, &self.windows, &self.next);
+        self.windows = self.next;
         Ok(true)
     }
 
     /// The sweeps from empty windows on, until one alters nothing or the budget is spent: how many there were.
     pub fn run(&mut self, budget: u32) -> Result<u32, Fault>
-        requires { front (length self.old.network.now.items.now) self.old.windows ≡ blank (R.Rule.numbers self.old.network.now.rule.now) self.old.network.now.bits.now self.old.network.now.items.now }
+        requires empty { front (length self.old.network.now.items.now) self.old.windows ≡ blank (R.Rule.numbers self.old.network.now.rule.now) self.old.network.now.bits.now self.old.network.now.items.now }
+        requires next { front (length self.old.network.now.items.now) self.old.next ≡ blank (R.Rule.numbers self.old.network.now.rule.now) self.old.network.now.bits.now self.old.network.now.items.now }
+        requires stale { self.old.stale ≡ replicate 16 true }
         ensures same { self.new.network ≡ self.old.network }
         ensures ends { Ends (R.Rule.numbers self.new.network.now.rule.now) self.new.network.now.bits.now self.new.network.now.items.now budget result }
         ensures left { Left (R.Rule.numbers self.new.network.now.rule.now) self.new.network.now.bits.now self.new.network.now.items.now (front (length self.new.network.now.items.now) self.new.windows) self.new.answers result }

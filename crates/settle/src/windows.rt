@@ -67,7 +67,10 @@ fn window_at<R: Rule, F: Fn(Window, Response) -> Window>(
     ensures { (f : Span → Response → Span) → ((w : Window) (a : Response) (v : Window) → F.post after w a v → span_of v ≡ f (span_of w) a) → span_of result ≡ window_by f network.now.items.now (spans_of windows.now) answers.now at }
 {
     match network.links[at] {
-        Some(place) => after(windows[place], answers[place]),
+        Some(link) => {
+            let place = usize::from(link);
+            after(windows[place], answers[place])
+        }
         None => window_of_head(network.items[at].delay),
     }
 }
@@ -80,7 +83,8 @@ pub(crate) fn renew_windows<R: Rule>(
     next: &mut [Window; 256],
 )
     requires { (k : ℕ) → k < length network.now.items.now → Narrow (window_by after network.now.items.now (spans_of windows.now) answers.now k) }
-    ensures { Renewed network.now.items.now (spans_of windows.now) answers.now (spans_of next.new) }
+    ensures long { length next.new ≡ 256 }
+    ensures renewed { Renewed network.now.items.now (spans_of windows.now) answers.now (spans_of next.new) }
 {
     // By index: the library says nothing of what is written through an adapter of `iter_mut`.
     for at in 0..network.items.len() {

@@ -27,7 +27,7 @@ returns-then-not-altered-clause-swept g c =
     let few = network.valid.size in
     let told = told_renewed _ _ _ _ _ _ c.renew.new.answers c.args.self.now.fresh c.renew.ensures in
     let all = all_bounded _ _ _ network.valid _ c.renew.new.answers told c.in_default.ensures in
-    let new = front_swept _ _ _ network.valid c.args.self.now.windows c.renew.new.answers told c.renew_windows.new.next (omega arith) c.renew_windows.ensures in
+    let new = front_swept _ _ _ network.valid c.args.self.now.windows c.renew.new.answers told c.renew_windows.new.next (omega (arith, c.renew_windows.ensures.long)) c.renew_windows.ensures.renewed in
     (still_here _ _ _ _ _ c.requires.made all (sym new ∙ sym c.if-not-altered.ensures), c.requires.made.is, told)
 
 pub invariant_of-self-7 : goal.invariant_of-self-7
@@ -35,7 +35,7 @@ invariant_of-self-7 g c =
     let network = c.args.self.now.network.now in
     let few = network.valid.size in
     let told = told_renewed _ _ _ _ _ _ c.renew.new.answers c.args.self.now.fresh c.renew.ensures in
-    record { fresh = fresh_after _ _ network.items.now c.args.self.now.windows c.renew_windows.new.next c.stale_resources-self.result c.renew.new.answers (omega arith) (omega arith) told c.stale_resources-self.ensures }
+    record { fresh = fresh_after _ _ network.items.now c.args.self.now.windows c.renew_windows.new.next c.stale_resources-self.result c.renew.new.answers (omega arith) (omega (arith, c.renew_windows.ensures.long)) told c.stale_resources-self.ensures }
 
 pub returns-clause-swept : goal.returns-clause-swept
 returns-clause-swept g c =
@@ -43,5 +43,5 @@ returns-clause-swept g c =
     let few = network.valid.size in
     let told = told_renewed _ _ _ _ _ _ c.renew.new.answers c.args.self.now.fresh c.renew.ensures in
     let all = all_bounded _ _ _ network.valid _ c.renew.new.answers told c.in_default.ensures in
-    let new = front_swept _ _ _ network.valid c.args.self.now.windows c.renew.new.answers told c.renew_windows.new.next (omega arith) c.renew_windows.ensures in
+    let new = front_swept _ _ _ network.valid c.args.self.now.windows c.renew.new.answers told c.renew_windows.new.next (omega (arith, c.renew_windows.ensures.long)) c.renew_windows.ensures.renewed in
     made_at _ _ _ _ c.args.number _ (omega arith) (made_more _ _ _ _ _ c.requires.made all (front (length network.items.now) c.renew_windows.new.next) new c.if-not-altered.ensures)
