@@ -3,7 +3,7 @@ use commands::listed::Listed;
 use items::{Item, Refusal};
 use rules::machine::Machine;
 use std::alloc::{AllocError, Global};
-use texts::SentBack;
+use texts::{SentBack, Windows};
 use visits::replay::Stop;
 use visits::replay::list::replay;
 use visits::visit::{Answer, Visit};
@@ -41,11 +41,14 @@ fn say(said: &mut String, visit: &Visit<Machine>, answer: &Answer) -> Result<(),
             writeln!(said, "{done}")
         }
         Answer::Edited(Err(refusal)) => say_sent(said, SentBack::Plan(*refusal)),
-        Answer::Settled(Ok(table)) => {
-            let windows = table.shown();
+        Answer::Settled { sweeps, rows } => {
+            let windows = Windows {
+                sweeps: *sweeps,
+                rows: rows.as_slice(),
+            };
             write!(said, "{windows}")
         }
-        Answer::Settled(Err(fault)) => say_sent(said, SentBack::Settle(*fault)),
+        Answer::Unsettled(fault) => say_sent(said, SentBack::Settle(*fault)),
         Answer::Listed(items) => say_items(said, items.as_slice()),
     }
 }

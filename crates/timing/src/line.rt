@@ -10,7 +10,7 @@ use settle::settling::MOST_SWEEPS;
 use std::alloc::{AllocError, Global};
 use texts::SentBack;
 use visits::visit::answers::visit;
-use visits::visit::{Answer, Visit};
+use visits::visit::{Answer, SettledTable, Visit};
 
 /// The rule with a switch of 0 ticks.
 pub fn line_rule() -> Machine
@@ -35,8 +35,8 @@ pub fn windows_of(heap: Global, file: &[u8]) -> Result<Outcome, AllocError>
         &mut plan,
         &Visit::Settle(line_rule(), MOST_SWEEPS, MOST_ITEMS),
     )? {
-        Answer::Settled(Ok(table)) => Ok(Ok(table)),
-        Answer::Settled(Err(fault)) => Ok(Err(SentBack::Settle(fault))),
+        Answer::Settled { sweeps, rows } => Ok(Ok(SettledTable { sweeps, rows })),
+        Answer::Unsettled(fault) => Ok(Err(SentBack::Settle(fault))),
         _ => unreachable(),
     }
 }

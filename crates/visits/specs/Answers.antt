@@ -16,7 +16,7 @@ use Rattle.settle.specs.declared.Fault.TheVariants.{Budget, TableShort, Unbounde
 use Rattle.settle.specs.Rows.{row_at, release_of, finish_of}
 use Rattle.settle.specs.Settled.{Ends, Budgeted}
 use Rattle.visits.specs.declared.visit.Answer.{Answer}
-use Rattle.visits.specs.declared.visit.Answer.TheVariants.{Edited, Settled, Listed}
+use Rattle.visits.specs.declared.visit.Answer.TheVariants.{Edited, Settled, Unsettled as Sent, Listed}
 use Rattle.visits.specs.declared.visit.SettledTable.{SettledTable}
 use Rattle.visits.specs.declared.visit.Visit.{Visit}
 use Rattle.visits.specs.declared.visit.Visit.TheVariants.{Place, Withdraw, Retime, Undo, Settle, Items}
@@ -39,14 +39,16 @@ module _ (allows : ℕ → List Record → Trace → Type 0) (rule : Numbers) (b
 
   -- and so it is answered
   abbrev pub SettleAnswered : (budget rows : ℕ) → Answer → Type 0
-  SettleAnswered budget rows (Settled r) = SettlesAs budget rows r
+  SettleAnswered budget rows (Settled n t) = SettlesAs budget rows (Ok (record { sweeps = n; rows = t }))
+  SettleAnswered budget rows (Sent f) = SettlesAs budget rows (Err f)
   SettleAnswered budget rows (Edited r) = ⊥
   SettleAnswered budget rows (Listed t) = ⊥
 
 -- what a list of the items is answered
 abbrev pub ListsAs : List Item → Answer → Type 0
 ListsAs xs (Listed t) = vec_items t ≡ xs
-ListsAs xs (Settled r) = ⊥
+ListsAs xs (Settled n t) = ⊥
+ListsAs xs (Sent f) = ⊥
 ListsAs xs (Edited r) = ⊥
 
 -- the answer to a visit: an edit or an undo goes by its refusal, a settle by the rule, the bit times and the items

@@ -41,8 +41,10 @@ impl SettledTable {
 pub enum Answer {
     /// The edit or the undo was done; or it was refused, and nothing changed.
     Edited(Result<(), Refusal>),
-    /// The settle gave a table, or was sent back.
-    Settled(Result<SettledTable, Fault>),
+    /// The settle gave a table. It lies here in its parts, so that an answer is no larger than a `SettledTable`.
+    Settled { sweeps: u32, rows: Vec<WindowRow> },
+    /// The settle was sent back.
+    Unsettled(Fault),
     /// The standing items.
     Listed(Vec<Item>),
 }

@@ -47,8 +47,10 @@ pub fn visit<R: Rule>(heap: Global, plan: &mut Plan, visit: &Visit<R>) -> Result
         Visit::Retime(number, work) => Answer::Edited(plan.retime(*number, *work)),
         Visit::Undo => Answer::Edited(plan.undo()),
         Visit::Settle(rule, budget, rows) => {
-            let settled = settled(heap, plan, rule, *budget, *rows)?;
-            Answer::Settled(settled)
+            match settled(heap, plan, rule, *budget, *rows)? {
+                Ok(SettledTable { sweeps, rows }) => Answer::Settled { sweeps, rows },
+                Err(fault) => Answer::Unsettled(fault),
+            }
         }
         Visit::Items => Answer::Listed(Vec::from_slice(heap, plan.items())?),
     })
