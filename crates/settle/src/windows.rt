@@ -109,12 +109,12 @@ pub(crate) fn lead<R: Rule>(
 }
 
 /// Whether one of the first `count` windows differs.
-#[tactic(auto, using(consult::proofs::Fronts::same_spans))]
 pub(crate) fn altered(windows: &[Window; 256], next: &[Window; 256], count: usize) -> bool
     requires { count ≤ 256 }
     ensures { Differs (front count windows.now) (front count next.now) result }
 {
-    windows[..count] != next[..count]
+    windows[..count].iter().zip(&next[..count]).any(|(old, new)| old.open != new.open
+        || old.close != new.close)
 }
 
 /// The resources of the items whose windows differ in length, marked, the first resource first.
