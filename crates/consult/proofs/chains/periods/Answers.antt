@@ -1,5 +1,5 @@
 -- Each turn of `periods` writes one period, from the item or from its predecessor's place.
-use Rattle.std.proofs.Common.{◌≡◌, ℕ, ◌<◌, ◌≢◌, List, length, get_or, Some, Option, unwrap_or, sym, ap, ◌∙◌, arith, length-set, get_or-set_other, get_or-set_same, below_more}
+use Rattle.std.proofs.Common.{◌≡◌, ℕ, ◌<◌, ◌≢◌, List, length, Some, Option, unwrap_or, sym, ap, ◌∙◌, arith, length-set, get_or-set_other, get_or-set_same, below_more}
 use Rattle.std.proofs.lemmas.Bool.{ne_eqb}
 use Rattle.items.specs.declared.Item.{Item}
 use Rattle.items.specs.Items.{item_at}

@@ -1,5 +1,5 @@
 -- A window that differs, or none.
-use Rattle.std.proofs.Common.{◌≡◌, ◌≢◌, ℕ, ◌<◌, ◌≤◌, Bool, true, false, List, length, take, get_or, sym, ap, ◌∙◌, subst, rules, tests, arith, length-take-le, ext_get_or}
+use Rattle.std.proofs.Common.{◌≡◌, ◌≢◌, ℕ, ◌<◌, Bool, true, false, List, length, take, sym, ap, ◌∙◌, subst, rules, tests, arith, length-take-le, ext_get_or}
 use lib.ListN.{length-map}
 use Rattle.std.specs.Bool.{MatchBool}
 use Rattle.std.specs.List.{zip, AllWithin, HoldsAt}
