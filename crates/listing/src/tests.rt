@@ -21,6 +21,10 @@ fn bad_bit_times(rt: HostRuntime) -> Result<(), Fail> {
     assert!(rt;
         end.as_str() == "line 1: expected a bit time from 0 to 255, found the end of the text"
     );
+    let none = message(heap, b"# a comment\n\n")?;
+    assert!(rt;
+        none.as_str() == "line 3: expected a bit time from 0 to 255, found the end of the text"
+    );
     let large = message(heap, b"# a comment\n\n256\n")?;
     assert!(rt; large.as_str() == "line 3: expected a bit time from 0 to 255, found \"256\"");
     Ok(())
